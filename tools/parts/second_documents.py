@@ -54,8 +54,8 @@ def flat_of(program, spec, text):
     return said(program, "expand", spec).decode(), target, typed
 
 
-def said(*words, cwd=None):
-    return subprocess.run(words, cwd=cwd, stdin=subprocess.DEVNULL, stdout=subprocess.PIPE, stderr=subprocess.DEVNULL, check=False).stdout
+def said(*words):
+    return subprocess.run(words, stdin=subprocess.DEVNULL, stdout=subprocess.PIPE, stderr=subprocess.DEVNULL, check=False).stdout
 
 
 def broken(document, chance):
@@ -70,14 +70,3 @@ def broken(document, chance):
         yield [*before, line[:place] + line[place + 1:], *after]
         for number in set(re.findall(rb"\d+", line)):
             yield [*before, re.sub(rb"\b%s\b" % number, b"%d" % (int(number) + chance.choice((-1, 1))), line, count=1), *after]
-
-
-def any_bytes(document, chance):
-    """The document cut, or with other bytes: none at all, many digits, a byte that is no character, bytes by chance."""
-    at, size = chance.randrange(len(document) + 1), len(document)
-    yield from (b"", b"\n", b"\0" * 40, document[:at], document[:at] + b"\xff\xfe" + document[at:], document.replace(b"\n", b"\r\n"))
-    numbers = [it.span() for it in re.finditer(rb"[0-9]+", document)] or [(0, 0)]
-    first, last = chance.choice(numbers)
-    yield document[:first] + b"9" * 6000 + document[last:]
-    yield bytes(chance.choice(range(256)) for _ in range(300))
-    yield bytes(chance.randrange(256) if chance.randrange(40) == 0 else document[it] for it in range(size))

@@ -85,49 +85,18 @@ def whole_of(add, sections, is_strict):
         wanted = add("&&", add("G", part("assert")), part("guarantee"))
     return add("->", initially, add("&&", preset, add("->", assumed, wanted)))
 
-class BadFlat(Exception):
-    """The lines aren't those that `expand` writes."""
-
-ARITIES = {"true": 0, "false": 0, **dict.fromkeys(("signal", "!", "X", "F", "G"), 1), **dict.fromkeys(("&&", "||", "->", "<->", "U", "R", "W"), 2)}
-
-def listed_node(words, signals):
-    """A node of the list as it is written."""
-    sign, *parts = words
-    return ("signal", signals[parts[0]]) if sign == "signal" else (sign, *map(int, parts))
-
 class Flat:
     """What `expand` writes, with a list of at most so many formulas and the formula of the whole. Of the lines `require` and `assert` so many, the last
-    ones, are of typed inputs and outputs; where the list stands behind them, its ids are taken, and all of the sections and the whole has to be in it."""
+    ones, are of typed inputs and outputs."""
     def __init__(self, text, most=MOST_NODES, typed=(0, 0)):
-        try:
-            self.read(text.splitlines(), most, typed)
-        except (ValueError, IndexError, KeyError, TypeError, RecursionError) as why:
-            raise BadFlat("this isn't what `expand` writes") from why
-
-    def read(self, lines, most, typed):
-        kind, inputs, outputs, *lines = lines
+        kind, inputs, outputs, *lines = text.splitlines()
         self.inputs, self.outputs, self.kind = inputs.split(" ")[1:], outputs.split(" ")[1:], kind.split(" ")[1]
         self.formulas, sections = Formulas(most), {}
         signals = {name: at for at, name in enumerate(self.inputs + self.outputs)}
-        listed = [line.split(" ") for line in lines if line.startswith(("node ", "negated ", "normal "))]
-        self.read_list(listed, signals)
-        for section, formula in self.in_order(lines[: len(lines) - len(listed)], dict(zip(("require", "assert"), typed))):
+        for section, formula in self.in_order(lines, dict(zip(("require", "assert"), typed))):
             tokens = re.findall(r"[()!]|[^ ()!]+", formula)[::-1]
             sections.setdefault(section, []).append(self.formulas.read(tokens, signals))
-            if tokens:
-                raise ValueError
         self.whole = whole_of(self.formulas.add, sections, kind.endswith(" strict"))
-        if listed and (listed[-2:] != [[head, str(form)] for head, form in zip(("negated", "normal"), both_forms(self.formulas, self.whole))]
-                       or len(self.formulas) != len(listed) - 2):
-            raise ValueError
-
-    def read_list(self, lines, signals):
-        """Takes the nodes of a list, whose parts stand before, each once."""
-        for at, (number, *node) in enumerate(line[1:] for line in lines[:-2]):
-            sign, *parts = listed_node(node, signals)
-            is_one = len(parts) == ARITIES[sign] and (sign == "signal" or all(0 <= part < at for part in parts))
-            if not is_one or number != str(at) or self.formulas.add(sign, *parts) != at:
-                raise ValueError
 
     def in_order(self, lines, typed):
         """The sections and formulas of the lines in the order in which they are made: those that are added for typed signals behind all others."""

@@ -5,7 +5,7 @@ import functools
 import itertools
 import re
 
-from second_formulas import MOST_NODES, TextFault, automaton_of, both_forms, components_of, reduced_covers_of
+from second_formulas import MOST_NODES, Flat, TextFault, automaton_of, both_forms, components_of, converted, reduced_covers_of
 
 SYSTEM, ENVIRONMENT = "system", "environment"
 MOST_BASE = {1: 1_000_000, 2: 1_000_000, 3: 4_000_000, 4: 4_000_000}
@@ -106,11 +106,10 @@ class Names:
 
 class Text(Names):
     """What a document of the versions before 6 is checked against."""
-    def __init__(self, flat):
+    def __init__(self, text, typed=(0, 0)):
+        flat = Flat(text, MOST_NODES, typed)
         super().__init__(flat)
         negated, normal = both_forms(flat.formulas, flat.whole)
-        if len(flat.formulas) > MOST_NODES:
-            raise TextFault("refused 14 TooManyNodes at 0")
         self.automata = {SYSTEM: automaton_of(flat.formulas, negated), ENVIRONMENT: automaton_of(flat.formulas, normal)}
         if self.automata[SYSTEM] is None:
             raise TextFault("refused 18 AutomatonTooLarge at 0")
@@ -148,12 +147,19 @@ class Taken:
         return automaton and Problem(automaton, side, *self.signals, (kind == "Mealy") == (side == SYSTEM), 4, letters)
 
 class SolveText(Names):
-    """What a document of version 6 is checked against: a text of these kinds, as it is and, where they differ, as it is converted."""
-    def __init__(self, flat, semantics, target, shifted):
+    """What a document of version 6 is checked against: a text whose SEMANTICS is that of the flat one, with this TARGET or the same."""
+    def __init__(self, text, target=None, typed=(0, 0)):
+        flat = Flat(text, MOST_SOLVE_NODES, typed)
         super().__init__(flat)
-        self.kind, self.target, size = semantics, target, (len(flat.inputs), len(flat.outputs))
-        self.plain = Taken(flat.formulas, flat.whole, *size)
-        self.shifted = shifted and Taken(*shifted, *size)
+        inputs, outputs = len(flat.inputs), len(flat.outputs)
+        self.target, self.shifted = target or flat.kind, None
+        if self.target != self.kind:
+            signals = range(inputs) if self.kind == "Moore" else range(inputs, inputs + outputs)
+            try:
+                self.shifted = Taken(*converted(flat.formulas, flat.whole, signals), inputs, outputs)
+            except TextFault:
+                pass
+        self.plain = Taken(flat.formulas, flat.whole, inputs, outputs)
 
     def taken(self, kind, semantics):
         """The text as it is for this kind or, where a document names its semantics, as it is converted. None where it isn't so."""
