@@ -1,11 +1,10 @@
 """Documents of version 6, of which the circuit is exchanged for another one that does the same with the same latches."""
 
-import os
-import shutil
 import subprocess
 import sys
 import tempfile
 
+from beside import place_of
 from texts import shown
 
 
@@ -34,13 +33,6 @@ def document_with(circuit, text):
     return circuit + "c\n" + "\n".join(lines)
 
 
-def boundsyn_of(tools):
-    """The program: that in the folder that BOUNDSYN_BIN names, else that of the checkout or, outside of one, on the PATH."""
-    folder, top = os.environ.get("BOUNDSYN_BIN"), os.path.join(tools, os.pardir)
-    place = os.path.join(folder or top, "boundsyn") if folder or os.path.exists(os.path.join(tools, "launch")) else "boundsyn"
-    return shutil.which(place)
-
-
 def said_of(boundsyn, spec, document):
     """Whether `check` accepts a document, and its line."""
     with tempfile.NamedTemporaryFile(prefix="abc-optimise-") as file:
@@ -50,13 +42,13 @@ def said_of(boundsyn, spec, document):
     return done.returncode == 0, done.stdout.decode(errors="replace").strip()
 
 
-def kept(tools, text, circuit, spec, name):
+def kept(text, circuit, spec, name):
     """What is printed: the circuit, with the rest of a document of version 6 where `check` accepts that."""
     if spec is None and comment_of(text) is None:
         return circuit
     if spec is None or comment_of(text) is None:
         sys.exit(f"abc-optimise: {shown(name)}: " + ("a document of version 6 wants --spec SPEC" if spec is None else "no document of version 6"))
-    boundsyn = boundsyn_of(tools)
+    boundsyn = place_of("boundsyn")
     if not boundsyn:
         sys.exit("abc-optimise: needs boundsyn, which isn't there")
     document = document_with(circuit, text)
