@@ -6,10 +6,15 @@
 
 mod guarantees;
 mod news;
+mod remarks;
 mod searches;
 mod solutions;
 
 pub use guarantees::Guarantees;
 pub use news::{Listener, News, NoListener, Told, ToldReply, hear_all};
+pub use remarks::{Owed, Remarks};
 pub use searches::{LogEnd, LogEnds, Searched, SideLogs};
-pub use solutions::{End, Limit, NotWon, Refuted, RefutingEnd, Unsolved, Unwon, Withheld};
+pub use solutions::{
+    ConjunctEnd, ConjunctLimit, End, Engine, Limit, NotWon, Refuted, RefutingEnd, Solution,
+    Unsolved, Unwon, Withheld,
+};

@@ -2,7 +2,7 @@
 
 use crate::guarantees::Guarantees;
 use crate::searches::Searched;
-use crate::solutions::{Refuted, Unsolved};
+use crate::solutions::{ConjunctEnd, Solution, Unsolved};
 use letters_and_lassos::{Kind, Side};
 use program_replies::Reply;
 
@@ -38,11 +38,10 @@ impl Listener for NoListener {
 pub enum Told {
     /// The text has a fault.
     Refused,
-    /// `solve` found a strategy of this side, whose circuit reaches so many states, and it passes the test, with the logs of the sizes that
-    /// are refuted.
-    Found(Side, u32, Refuted),
+    /// `solve` found a strategy whose document passes the test, with the logs of the sizes that are refuted.
+    Found(Solution),
     /// `solve` prints no strategy, and its machines would be of this kind.
-    Unsolved(Kind, Unsolved),
+    Unsolved(Kind, Unsolved, ConjunctEnd),
     /// A document of `synth`, which `core` prints too where it has no counter-machine.
     Searched(Searched),
     /// Guarantees that can't be met together.

@@ -1,6 +1,65 @@
 //! What `solve` tells of the sizes that it refutes, and of why it prints no strategy.
 
+use crate::remarks::Remarks;
 use letters_and_lassos::Side;
+
+/// What `solve` prints a circuit of.
+#[derive(Clone, Copy, Debug, PartialEq, Eq)]
+pub struct Solution {
+    pub side: Side,
+    /// How many states the circuit reaches.
+    pub states: u32,
+    pub latches: u32,
+    pub gates: u32,
+    pub engine: Engine,
+    /// The smaller sizes that are refuted.
+    pub refuted: Refuted,
+    /// What is said of the machine of the system's side.
+    pub remarks: Remarks,
+}
+
+/// What found a strategy.
+#[derive(Clone, Copy, Debug, PartialEq, Eq)]
+pub enum Engine {
+    /// The games of the automata of the whole text.
+    WholeGames,
+    /// The game of the text's conjuncts.
+    ConjunctGame,
+    /// The search of machines by their size.
+    SizeSearch,
+}
+
+/// Why the game of conjuncts gives nothing to print.
+#[derive(Clone, Copy, Debug, PartialEq, Eq)]
+pub enum ConjunctEnd {
+    /// It wasn't played: the time of the text was over.
+    Unplayed,
+    /// The text has no shape that it takes.
+    NoShape,
+    /// This limit is passed.
+    Passed(ConjunctLimit),
+    /// This side wins, and what it wins with isn't printed.
+    Withheld(Side, Withheld),
+    /// Memory ran out.
+    NoMemory,
+    /// The time of the text was over.
+    Time,
+}
+
+/// What limits the game of conjuncts.
+#[derive(Clone, Copy, Debug, PartialEq, Eq)]
+pub enum ConjunctLimit {
+    Steps,
+    Positions,
+    Edges,
+    Bytes,
+    /// The obligations or alternatives of a monitor's state, or a monitor's states.
+    Monitor,
+    /// Conjuncts, their forms, or those that ask for something good.
+    Conjuncts,
+    /// The states of a strategy.
+    Strategy,
+}
 
 /// Why `solve` prints no strategy.
 #[derive(Clone, Copy, Debug, PartialEq, Eq)]
@@ -32,6 +91,8 @@ pub enum RefutingEnd {
     NotMade,
     /// Memory ran out.
     NoMemory,
+    /// The time of the text is over.
+    Time,
     /// The logs fail at this line of the document: a fault of who makes them. It is printed without them.
     BadLine(u64),
 }
@@ -52,6 +113,8 @@ pub enum NotWon {
     Ended(End),
     /// Memory runs out in the games.
     NoMemory,
+    /// The time of the text is over.
+    Time,
 }
 
 /// How games end that nobody wins.
@@ -74,6 +137,8 @@ pub enum Withheld {
     AnnotationTooLarge(Limit),
     /// Its side loses on some run: a fault of the games.
     Loses,
+    /// The time of the text was over before it was tested.
+    Time,
     /// This line of its document fails: a fault of who makes it.
     BadLine(u64),
 }
