@@ -1,8 +1,7 @@
 //! The commands with their options and ranges, for whoever tells of them.
 
 use crate::ranges::{
-    MOST_ALONE, MOST_BENCHED, MOST_CLIENTS, MOST_ENTRIES, MOST_IN_BATCH, MOST_REFUTED,
-    MOST_SECONDS,
+    MOST_ALONE, MOST_BENCHED, MOST_CLIENTS, MOST_ENTRIES, MOST_IN_BATCH, MOST_REFUTED, MOST_SECONDS,
 };
 use std::alloc::AllocError;
 use std::fmt::Write;
