@@ -48,6 +48,8 @@ pub enum Stop {
     /// A limit is passed, when so much was used.
     Passed(Limit, Usage),
     NoMemory,
+    /// The time is over.
+    Time,
 }
 
 impl From<AllocError> for Stop {
