@@ -1,12 +1,11 @@
 //! The triple fixpoint: the greatest set of states from which the system reaches each goal again, each by the least set of those from which
 //! it gets nearer or keeps an assumption from being met (Bloem, Jobstmann, Piterman, Pnueli, Sa'ar: Synthesis of reactive(1) designs).
 
-use crate::arenas::Arena;
-use crate::rows::mark_of;
 use crate::solutions::{Loss, Reach, Solution};
 use crate::traps::{Aim, Trap};
 use conjunct_monitors::{Meter, Stop};
 use letters_and_lassos::Kind;
+use reactivity_arena::{Arena, mark_of};
 use std::alloc::{AllocError, Global};
 
 /// How many goals there are, and assumptions that ask for something good.

@@ -1,15 +1,13 @@
 //! A game from its conjuncts to the winner's strategy.
 
-use crate::arenas::Arena;
 use crate::fixpoints::{Counts, solve};
-use crate::products::Product;
-use crate::rows::{Cast, mark_of};
 use crate::solutions::Solution;
 use crate::strategies::{Maker, Strategy};
 use crate::views::{Spot, View};
 use conjunct_monitors::{Meter, Order, Stop};
 use conjuncts::{Conjunct, Forms};
 use letters_and_lassos::Side;
+use reactivity_arena::{Arena, Cast, Product, mark_of};
 use std::alloc::{AllocError, Global};
 
 /// What is played for.

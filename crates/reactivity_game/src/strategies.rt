@@ -1,12 +1,10 @@
 //! The strategy of the winner, as diagrams over the letters that it reads.
 
-use crate::arenas::Arena;
-use crate::links::Link;
-use crate::products::{Fate, Product};
 use crate::views::{Choice, Spot, View};
 use conjunct_monitors::{Diagram, Diagrams, Limit, Meter, Order, Stop};
 use indexmap::IndexSet;
 use letters_and_lassos::{Kind, Side};
+use reactivity_arena::{Arena, Fate, Link, Product};
 use std::alloc::{AllocError, Global};
 use std::collections::HashMap;
 
