@@ -184,7 +184,10 @@ fn work<R: Wait, G: Gate, D: Deadline>(
     let mut worker = Worker::new(alloc, number, base.vars)?;
     let mut entries = Vec::new(alloc);
     for _ in rt.forever() {
-        if passage.deadline.is_over() || read(rt, shared, base.vars, &mut entries)? {
+        if passage.deadline.is_over() {
+            return Ok(());
+        }
+        if read(rt, shared, base.vars, &mut entries)? {
             return Ok(());
         }
         passage.pass(number, Moment::AfterRead);

@@ -15,7 +15,7 @@ pub(crate) struct Role {
 
 /// The monitors of a game with their roles.
 #[derive(Drop)]
-pub(crate) struct Cast {
+pub struct Cast {
     pub(crate) monitors: Vec<Monitor>,
     pub(crate) roles: Vec<Role>,
     /// The diagrams of the monitors' edges.
@@ -29,7 +29,7 @@ pub(crate) struct Cast {
 const MOST_MARKS: u32 = 64;
 
 impl Cast {
-    pub(crate) fn new(alloc: Global) -> Cast {
+    pub fn new(alloc: Global) -> Cast {
         Cast {
             monitors: Vec::new(alloc),
             roles: Vec::new(alloc),
@@ -40,7 +40,7 @@ impl Cast {
     }
 
     /// Adds the monitor of a conjunct.
-    pub(crate) fn add(
+    pub fn add(
         &mut self,
         alloc: Global,
         forms: &Forms,
@@ -128,6 +128,6 @@ impl Cast {
 }
 
 /// The mark of a number.
-pub(crate) fn mark_of(number: u32) -> u64 {
+pub fn mark_of(number: u32) -> u64 {
     1u64.checked_shl(number).unwrap_or(0)
 }
