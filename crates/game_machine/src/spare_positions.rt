@@ -31,11 +31,7 @@ pub(crate) fn drop_spare<D: Deadline>(
 }
 
 /// Tries each position once. Whether one went.
-fn drop_once<D: Deadline>(
-    alloc: Global,
-    win: &mut Win<'_>,
-    deadline: &D,
-) -> Result<bool, Stop> {
+fn drop_once<D: Deadline>(alloc: Global, win: &mut Win<'_>, deadline: &D) -> Result<bool, Stop> {
     let order = by_uses(alloc, win)?;
     let mut kept = vec![in alloc; false; win.nodes.len()]?;
     mark_reached(win, &mut kept)?;

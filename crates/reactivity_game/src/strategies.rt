@@ -84,7 +84,7 @@ impl<'a> Maker<'a> {
                 break;
             };
             if place >= MOST_STATES {
-                return Err(meter.passed(Limit::Positions));
+                return Err(meter.passed(Limit::StrategyStates));
             }
             if deadline.is_over() {
                 return Err(Stop::Time);
