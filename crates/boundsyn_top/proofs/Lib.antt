@@ -6,4 +6,4 @@ mod SolveLemmas
 mod RefusalLemmas
 mod RunLemmas
 mod PrintedLemmas
-pub mod VerifiedLemmas
+mod VerifiedLemmas
