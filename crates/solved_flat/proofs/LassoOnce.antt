@@ -74,11 +74,13 @@ module _ (one_text : SolveTextsAreDetermined) (one_flat : FlatTextsAreDetermined
       let states : StatesWord word (all_names so.flat.expanded) on.lasso = at_names text given on.known known (λ names. StatesWord word names on.lasso) on.is so on.states in
       let word_is : on.lasso ≡ lasso = readings.one_word word (all_names so.flat.expanded) on.lasso lasso states due in
       let tree_is : on.is.taken.tree ≡ so.taken.tree = same_tree one_flat one_tree text given on.known known on.is so in
-      let flat_is : on.is.flat ≡ so.flat = same_flat one_flat one_tree text given on.known known on.is so in
-      (is, at ∙ ap truth_line on.exactly
-          ∙ ap (truth_of given on.is.taken.tree on.is.flat) word_is
-          ∙ ap (λ (flat : FlatText). truth_of given on.is.taken.tree flat lasso) flat_is
-          ∙ ap (λ (tree : Text). truth_of given tree so.flat lasso) tree_is)
+      let flat_is : on.is.flat ≡ so.flat = same_flat one_flat one_tree text given on.known known on.is so in (
+        is,
+        at ∙ ap truth_line on.exactly
+            ∙ ap (truth_of given on.is.taken.tree on.is.flat) word_is
+            ∙ ap (λ (flat : FlatText). truth_of given on.is.taken.tree flat lasso) flat_is
+            ∙ ap (λ (tree : Text). truth_of given tree so.flat lasso) tree_is,
+      )
 
   pub are_due : LassoSolveAnswersAreDue
   are_due = record { statuses = statuses; refused = has_fault; line_refused = has_bad_line; of_fault = of_fault; of_bad_line = of_bad_line; of_lasso = of_lasso }

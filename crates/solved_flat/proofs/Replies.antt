@@ -14,16 +14,19 @@ use Rattle.flat_text.specs.Laws.{FlatTextsAreDetermined, FlatTextsHaveNoFault}
 use Rattle.flat_lines.specs.FlatLines.{all_names}
 use Rattle.flat_lines.specs.Laws.{ExpandedCanBeWritten}
 use Rattle.lasso_word.specs.WordText.{StatesWord}
+use Rattle.program_replies.specs.declared.replies.Reply.{Reply}
 use Rattle.program_replies.specs.Refusals.{RefusedBy}
 use Rattle.solve_ground.specs.declared.texts.SolveText.{SolveText}
 use Rattle.solve_ground.specs.SolveText.{IsSolveFault, IsSolveText}
 use Rattle.solve_ground.specs.Taken.{converted_from, spoken_word, taken_kind, taken_shift}
 use Rattle.solved_flat.specs.declared.texts.TakenText.{TakenText}
+use Rattle.solved_flat.specs.declared.texts.Taking.{Taking}
+use Rattle.solved_flat.specs.declared.texts.Taking.TheVariants.{Taken, Refused}
 use Rattle.solved_flat.specs.Expand.{ExpandSolveAnswers, expansion_bytes}
 use Rattle.solved_flat.specs.Expand as expand
 use Rattle.solved_flat.specs.Lasso.{IsSolveTruthOn, LassoSolveAnswers}
 use Rattle.solved_flat.specs.Lasso as lasso
-use Rattle.solved_flat.specs.Taken.{CanBeAnswered, IsTaken, bytes_of_taken, shift_from, shift_seen}
+use Rattle.solved_flat.specs.Taken.{CanBeAnswered, IfRefused, IfTaken, IsTaken, IsWholly, bytes_of_taken, shift_from, shift_seen}
 use Rattle.solved_flat.proofs.Same.{shift_known}
 
 module _ (text : List ℕ) (given : Option Kind) where
@@ -84,3 +87,21 @@ module _ (text : List ℕ) (given : Option Kind) (t : SolveText) (is : IsSolveTe
       few = few.few_signals;
       stands = is.normal.stands;
     }
+
+-- what is known of a text that was taken wholly, whatever came of it
+module _ (text : List ℕ) (given : Option Kind) where
+  pub taken_so : (x : Taking) → IsWholly text given x → IfTaken (IsTaken text given) x
+  taken_so (Taken t) so = so.0
+  taken_so (Refused reply) so = absurd so
+
+  pub answerable_so : (x : Taking) → IsWholly text given x → IfTaken CanBeAnswered x
+  answerable_so (Taken t) so = so.1
+  answerable_so (Refused reply) so = absurd so
+
+  pub answers_so : (x : Taking) → IsWholly text given x → IfTaken (λ t. (with_nodes : Bool) → ExpandSolveAnswers text given with_nodes (bytes_of_taken with_nodes t) 0) x
+  answers_so (Taken t) so = written_taken text given t so.0
+  answers_so (Refused reply) so = absurd so
+
+  pub never_refused : (P : Reply → Type 0) (x : Taking) → IsWholly text given x → IfRefused P x
+  never_refused P (Taken t) so = tt
+  never_refused P (Refused reply) so = absurd so

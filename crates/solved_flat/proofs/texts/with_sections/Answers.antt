@@ -7,9 +7,10 @@ use Rattle.solved_flat.proofs.Replies.{can_be_answered, is_taken, not_refused}
 use Rattle.solved_flat.proofs.texts.with_sections.Goals as goal
 
 pub returns-in-Ok : goal.returns-in-Ok
-returns-in-Ok c = λ given is.
-    (is_taken c.args.text.now given c.args.known is c.flat_texts_are_determined.ensures c.expanded_can_be_written.ensures c.in-Ok.spec c.in-Ok.ensures.flat,
-    can_be_answered c.args.text.now given c.args.known is c.flat_texts_are_determined.ensures c.expanded_can_be_written.ensures c.in-Ok.spec c.in-Ok.ensures.flat c.in-Ok.ensures.few)
+returns-in-Ok c = λ given is. (
+  is_taken c.args.text.now given c.args.known is c.flat_texts_are_determined.ensures c.expanded_can_be_written.ensures c.in-Ok.spec c.in-Ok.ensures.flat,
+  can_be_answered c.args.text.now given c.args.known is c.flat_texts_are_determined.ensures c.expanded_can_be_written.ensures c.in-Ok.spec c.in-Ok.ensures.flat c.in-Ok.ensures.few,
+)
 
 pub returns-in_ok-refusal-in-Err : goal.returns-in_ok-refusal-in-Err
 returns-in_ok-refusal-in-Err c = λ given is.
