@@ -3,8 +3,9 @@ ghost use Rattle.std.specs.Prelude.{OnErr, OnOk, IsErrOf};
 ghost use Rattle.input_output.specs.Bytes.{Gains, GainsFront};
 ghost use Rattle.input_output.specs.Faults.{Rose};
 ghost use Rattle.tlsf_expand.specs.FlatText.{spec_seen};
-ghost use Rattle.solved_flat.specs.Expand.{node_lines, taken_bytes};
-ghost use Rattle.flat_lines.specs.FlatLines.{all_names};
+ghost use Rattle.solved_flat.specs.Expand.{node_lines};
+ghost use Rattle.flat_lines.specs.FlatLines.{all_names, flat_bytes_by};
+ghost use Rattle.solved_flat.specs.Shown.{shown_names};
 ghost use Rattle.solved_flat.specs.Taken.{CanBeAnswered, bytes_of_taken, shift_seen};
 
 use crate::lists::put_nodes;
@@ -37,8 +38,8 @@ pub fn put_taken<K: Sink>(
 /// Writes the flat sections.
 fn put_sections<K: Sink>(alloc: Global, taken: &TakenText, out: &mut K) -> Result<(), SinkFault>
     requires { CanBeAnswered taken.now }
-    ensures ok { OnOk result (Gains (K.written out.old) (K.written out.new) (taken_bytes (shift_seen taken.now) (spec_seen taken.now.spec))) }
-    ensures front { OnErr result (GainsFront (K.written out.old) (K.written out.new) (taken_bytes (shift_seen taken.now) (spec_seen taken.now.spec))) }
+    ensures ok { OnOk result (Gains (K.written out.old) (K.written out.new) (flat_bytes_by (shown_names (shift_seen taken.now) (spec_seen taken.now.spec).expanded) (spec_seen taken.now.spec))) }
+    ensures front { OnErr result (GainsFront (K.written out.old) (K.written out.new) (flat_bytes_by (shown_names (shift_seen taken.now) (spec_seen taken.now.spec).expanded) (spec_seen taken.now.spec))) }
     ensures failed { IsErrOf result SinkFault.Failed → Rose (K.faults out.old) (K.faults out.new) }
     ensures not_failed { OnOk result (K.faults out.new ≡ K.faults out.old) }
 {
