@@ -1,8 +1,9 @@
 -- The lines of the nodes of a list, written one after another.
-use Rattle.std.proofs.Common.{◌≡◌, ℕ, zero, suc, ◌<◌, ◌≤◌, Bool, true, false, ltb, List, [], ◌++◌, length, Option, refl, sym, ap, ◌∙◌, subst, append_assoc, append-nil, arith}
+use Rattle.std.proofs.Common.{◌≡◌, ℕ, zero, suc, ◌+◌, ◌<◌, Bool, true, false, ltb, List, [], ◌++◌, length, Option, Result, Ok, Err, OnErr, OnOk, refl, sym, ap, ◌∙◌, subst, append_assoc, append-nil, arith}
 use Rattle.std.proofs.lemmas.Bool.{ltb-false, ltb-true}
 use Rattle.ltl_formula.specs.declared.nodes.Node.{Node}
 use Rattle.input_output.specs.Bytes.{Gains, GainsFront}
+use Rattle.input_output.proofs.EdgeLemmas.{Gains-append}
 use Rattle.input_output.proofs.GainLemmas.{front_more, gains_nothing}
 use Rattle.solved_flat.specs.Expand.{first_node_lines, node_line, node_lines}
 
@@ -36,12 +37,23 @@ module _ (names : List (List ℕ)) (nodes : List Node) where
       front_more a b c (first i) (one i) more.0 (one i ++ more.0) (first (length nodes)) so_far piece refl
       (sym (append_assoc (first i) (one i) more.0) ∙ more.1)
 
+  -- and with it they are the lines of one node more
+  pub gained_more : (a b c : Option (List ℕ)) (place : ℕ) → Gains a b (first place) → Gains b c (one place) → Gains a c (first (place + 1))
+  gained_more a b c place so_far piece =
+      let next : suc place ≡ place + 1 = omega arith in
+      subst (λ n. Gains a c (first n)) next (Gains-append a b c (first place) (one place) so_far piece)
+
 -- a front of the first part is one of the whole
 pub front_of_first : (a b : Option (List ℕ)) (part more : List ℕ) → GainsFront a b part → GainsFront a b (part ++ more)
 front_of_first a b part more part_front =
     front_more a a b [] part more (part ++ more) (part ++ more) (gains_nothing a a refl) part_front refl refl
 
--- and so is one of the second part behind the first
-pub front_of_second : (a b c : Option (List ℕ)) (part more : List ℕ) → Gains a b part → GainsFront b c more → GainsFront a c (part ++ more)
-front_of_second a b c part more before front =
-    front_more a b c part more [] more (part ++ more) before front (append-nil more) refl
+-- the second part behind the first is the whole
+pub all_behind : {T E : Type 0} (r : Result T E) (a b c : Option (List ℕ)) (part more : List ℕ) → Gains a b part → OnOk r (Gains b c more) → OnOk r (Gains a c (part ++ more))
+all_behind (Ok x) a b c part more before gained = Gains-append a b c part more before gained
+all_behind (Err e) a b c part more before gained = tt
+
+-- and a front of the second part behind the first is one of the whole
+pub front_behind : {T E : Type 0} (r : Result T E) (a b c : Option (List ℕ)) (part more : List ℕ) → Gains a b part → OnErr r (GainsFront b c more) → OnErr r (GainsFront a c (part ++ more))
+front_behind (Ok x) a b c part more before front = tt
+front_behind (Err e) a b c part more before front = front_more a b c part more [] more (part ++ more) before front (append-nil more) refl

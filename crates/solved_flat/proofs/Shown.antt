@@ -1,5 +1,5 @@
 -- A formula in which shifted signals are shown with X is the formula as it is taken, written out.
-use Rattle.std.proofs.Common.{◌≡◌, ℕ, ◌+◌, ◌-◌, ◌<◌, ◌≤◌, Bool, true, false, not, cond, ltb, List, [], ◌∷◌, ◌++◌, length, map, Option, None, Some, refl, sym, ap, ◌∙◌, arith, slice_index_or, codes}
+use Rattle.std.proofs.Common.{◌≡◌, ℕ, ◌+◌, ◌-◌, ◌<◌, ◌≤◌, Bool, true, false, not, cond, ltb, List, [], ◌∷◌, ◌++◌, length, map, Option, None, Some, refl, sym, ap, ◌∙◌, arith, slice_index_or, codes, length-append}
 use Rattle.std.proofs.lemmas.Bool.{ltb-false, ltb-true}
 use Rattle.std.proofs.lemmas.List.{get_or-append_right, get_or-map, get_or_append_left, length-map}
 use Rattle.ltl_formula.specs.Text.{formula_text, infix_text, prefixed}
@@ -11,7 +11,7 @@ use Rattle.kind_conversion.specs.ShiftedForm.{shifted_form}
 use Rattle.kind_conversion.specs.Shifts.{is_shifted}
 use Rattle.tlsf_expand.specs.Expansion.{Expanded}
 use Rattle.flat_lines.specs.FlatLines.{all_names}
-use Rattle.solved_flat.specs.Shown.{ShownFormulasAreTaken, shown_name, shown_names, taken_form}
+use Rattle.solved_flat.specs.Shown.{ShownFormulasAreTaken, shown_name, shown_names, taken_form, takes_inputs, takes_outputs}
 
 -- ---- the name of a signal
 
@@ -103,3 +103,10 @@ none_shown x = ap (λ names. names ++ map (shown_name false) x.outputs) (unshown
 pub shown_formulas_are_taken : ShownFormulasAreTaken
 shown_formulas_are_taken None x f below = ap (λ names. formula_text names f) (none_shown x)
 shown_formulas_are_taken (Some shift) x f below = text_shown shift x f below
+
+-- there are as many of them as of names
+pub shown_many : (shift : Option Shift) (x : Expanded) → length (shown_names shift x) ≡ length (all_names x)
+shown_many shift x =
+    let inputs : List (List ℕ) = map (shown_name (takes_inputs shift)) x.inputs in
+    let outputs : List (List ℕ) = map (shown_name (takes_outputs shift)) x.outputs in
+    omega (arith, length-append inputs outputs, length-append x.inputs x.outputs, length-map x.inputs (shown_name (takes_inputs shift)), length-map x.outputs (shown_name (takes_outputs shift)))

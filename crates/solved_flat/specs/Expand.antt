@@ -1,6 +1,6 @@
 -- The answer of `expand --solve` to a text, and with `--nodes` the list of formulas behind it (this project's own). A kind that is given stands for
 -- those that the text names.
-use Rattle.std.specs.Prelude.{◌≡◌, ℕ, zero, suc, Bool, List, [], ◌∷◌, ◌++◌, Option, None, Some, codes, decimal, length, slice_index_or, if◌then◌else◌}
+use Rattle.std.specs.Prelude.{◌≡◌, ℕ, zero, suc, Bool, true, false, List, [], ◌∷◌, ◌++◌, Option, None, Some, codes, decimal, length, slice_index_or}
 use Rattle.letters_and_lassos.specs.declared.kinds.Kind.{Kind}
 use Rattle.spec_faults.specs.declared.code.SpecCode.{SpecCode}
 use Rattle.ltl_formula.specs.declared.nodes.FormulaId.{FormulaId}
@@ -56,9 +56,14 @@ node_lines names nodes = first_node_lines names nodes (length nodes)
 
 -- ---- the answer
 
+-- the list of formulas, where it is asked for
+abbrev pub listed : Bool → FlatText → List Node → List ℕ
+listed true flat nodes = node_lines (all_names flat.expanded) nodes
+listed false flat nodes = []
+
 -- the flat text, with X before each signal that is shifted, and behind it the list of formulas where it is asked for
 abbrev pub expansion_bytes : Bool → Option Shift → FlatText → List Node → List ℕ
-expansion_bytes with_nodes shift flat nodes = flat_bytes_by (shown_names shift flat.expanded) flat ++ (if with_nodes then node_lines (all_names flat.expanded) nodes else [])
+expansion_bytes with_nodes shift flat nodes = flat_bytes_by (shown_names shift flat.expanded) flat ++ listed with_nodes flat nodes
 
 -- The bytes and the status: the line of the text's first fault as `solve` takes it, or the text as it is taken, written out flat.
 pub data ExpandSolveAnswers (text : List ℕ) (given : Option Kind) (with_nodes : Bool) (bytes : List ℕ) (status : ℕ) : Type 0 where
