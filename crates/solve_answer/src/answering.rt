@@ -19,6 +19,7 @@ use outcome_news::{ConjunctEnd, Listener, News, Told, ToldReply, Unsolved, Withh
 use program_replies::{Reply, Status, refusal};
 use solve_ground::{SolveText, solve_text};
 use std::alloc::{AllocError, Global};
+use std::mem::forget;
 use std::sync::Wait;
 use std::thread::Threads;
 use time_limits::{Deadline, Stopwatch, TextDeadline};
@@ -53,9 +54,31 @@ pub fn solve<R: Threads + Wait + Sync, G: Gate + Sync, S: Stopwatch + Sync, L: L
     ensures { IfOk result (λ s. SolveAnswers text.now given (limits_of refuting) s.reply.bytes.items (status_number s.reply.status)) }
 {
     let deadline = TextDeadline::begin(stopwatch, refuting.seconds);
+    let told = answer_to(
+        rt, alloc, text, given, budget, refuting, gate, &deadline, listener,
+    );
+    // It is a reference and a number, so there is nothing to be let go.
+    forget(deadline);
+    told
+}
+
+/// The same until a deadline.
+fn answer_to<R: Threads + Wait + Sync, G: Gate + Sync, D: Deadline + Sync, L: Listener>(
+    rt: &R,
+    alloc: Global,
+    text: &[u8],
+    given: Option<Kind>,
+    budget: Budget,
+    refuting: Refuting,
+    gate: &G,
+    deadline: &D,
+    listener: &mut L,
+) -> Result<ToldReply, AllocError>
+    ensures { IfOk result (λ s. SolveAnswers text.now given (limits_of refuting) s.reply.bytes.items (status_number s.reply.status)) }
+{
     match solve_text(alloc, text, given) {
         Ok(known) => answer(
-            rt, alloc, &known, budget, refuting, gate, &deadline, listener,
+            rt, alloc, &known, budget, refuting, gate, deadline, listener,
         ),
         Err(fault) => Ok(ToldReply {
             reply: refusal(alloc, fault)?,
