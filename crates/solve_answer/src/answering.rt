@@ -20,7 +20,6 @@ use outcome_news::{ConjunctEnd, Listener, News, Told, ToldReply, Unsolved, Withh
 use program_replies::{Reply, Status, refusal};
 use solve_ground::{SolveText, solve_text};
 use std::alloc::{AllocError, Global};
-use std::mem::forget;
 use std::sync::Wait;
 use std::thread::Threads;
 use time_limits::{Deadline, Stopwatch, TextDeadline};
@@ -56,37 +55,14 @@ pub fn solve<R: Threads + Wait + Sync, G: Gate + Sync, S: Stopwatch + Sync, L: L
 {
     let all = TextDeadline::begin(stopwatch, refuting.seconds);
     let sizes = TextDeadline::begin(stopwatch, seconds_for_sizes(refuting.seconds));
-    let told = answer_to(
-        rt, alloc, text, given, budget, refuting, gate, &all, &sizes, listener,
-    );
-    // They are references and numbers, so there is nothing to be let go.
-    forget(all);
-    forget(sizes);
-    told
-}
-
-/// The same until deadlines.
-fn answer_to<R: Threads + Wait + Sync, G: Gate + Sync, D: Deadline + Sync, L: Listener>(
-    rt: &R,
-    alloc: Global,
-    text: &[u8],
-    given: Option<Kind>,
-    budget: Budget,
-    refuting: Refuting,
-    gate: &G,
-    all: &D,
-    sizes: &D,
-    listener: &mut L,
-) -> Result<ToldReply, AllocError>
-    ensures { IfOk result (λ s. SolveAnswers text.now given (limits_of refuting) s.reply.bytes.items (status_number s.reply.status)) }
-{
+    let deadlines = Deadlines {
+        all: &all,
+        sizes: &sizes,
+    };
     match solve_text(alloc, text, given) {
-        Ok(known) => {
-            let deadlines = Deadlines { all, sizes };
-            answer(
-                rt, alloc, &known, budget, refuting, gate, &deadlines, listener,
-            )
-        }
+        Ok(known) => answer(
+            rt, alloc, &known, budget, refuting, gate, &deadlines, listener,
+        ),
         Err(fault) => Ok(ToldReply {
             reply: refusal(alloc, fault)?,
             told: Told::Refused,
