@@ -1,6 +1,6 @@
 -- The lines of a document of version 6 before its annotation are skipped.
 use Rattle.std.proofs.Common.{◌≡◌, ℕ, suc, ◌+◌, ◌<◌, ◌≤◌, ◌^◌, Bool, true, false, List, [], ◌∷◌, ◌++◌, length, refl, sym, ap, subst, ◌∙◌, append_assoc, decimal, arith}
-use Rattle.std.specs.Prelude.{All, codes, flat_map, IsTrue}
+use Rattle.std.specs.Prelude.{All, codes, flat_map, IsTrue, if◌then◌else◌}
 use Rattle.std.proofs.lemmas.List.Elements.{All-append, All-cons}
 use Rattle.letters_and_lassos.specs.declared.kinds.Kind.{Kind}
 use Rattle.letters_and_lassos.specs.declared.kinds.Kind.TheVariants.{Mealy, Moore}
@@ -97,11 +97,7 @@ abbrev behind_worker : Entry → List ℕ
 behind_worker e = 32 ∷ (flat_map literal_word e.clause ++ (48 ∷ 32 ∷ (flat_map hint_word e.hints ++ 48 ∷ [])))
 
 entry_is : (e : Entry) → (decimal e.by ++ behind_worker e) ++ 10 ∷ [] ≡ entry_line e
-entry_is e =
-    append_assoc (decimal e.by) (behind_worker e) (10 ∷ [])
-    ∙ ap (λ (t : List ℕ). decimal e.by ++ 32 ∷ t)
-    (append_assoc (flat_map literal_word e.clause) (48 ∷ 32 ∷ (flat_map hint_word e.hints ++ 48 ∷ [])) (10 ∷ [])
-    ∙ ap (λ (t : List ℕ). flat_map literal_word e.clause ++ 48 ∷ 32 ∷ t) (append_assoc (flat_map hint_word e.hints) (48 ∷ []) (10 ∷ [])))
+entry_is e = rw append_assoc refl
 
 behind_lacks : (vars : ℕ) (e : Entry) → IsWritable vars e → Lacks 10 (behind_worker e)
 behind_lacks vars e is =

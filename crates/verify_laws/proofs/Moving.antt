@@ -9,9 +9,15 @@ use Rattle.ltl_formula.specs.declared.nodes.Node.{Node}
 use Rattle.cobuchi_build.specs.declared.exploring.State.{State}
 use Rattle.annot_check.specs.declared.pairs.Pair.{Pair}
 use Rattle.annot_check.specs.AnnotationText.{Headed, behind_head, head_from, is_taken, pair_in, pairs_in}
-use Rattle.named_annotation.specs.declared.words.Counts.{Counts}
 use Rattle.named_annotation.specs.NamedStates.{Named, automaton_over}
 use Rattle.named_annotation.specs.NamedText.{counts_in, named_behind, named_in, state_in, with_pairs}
+
+-- the counts of a head, by what reads them
+abbrev pub held : {A : Type 0} → Option A → Type 0
+held {A} o = A
+
+abbrev pub Counts : Type 0
+Counts = held (counts_in 0 [])
 
 -- with its head in another line
 abbrev pub moved : Named → ℕ → Named

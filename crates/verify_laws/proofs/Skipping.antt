@@ -54,13 +54,13 @@ texts_skipped one two lacks none lacks' none' =
     both_skipped (one ++ 10 ∷ []) (text_of_lines (two ∷ [])) (line_skipped one lacks none) (text_skipped two lacks' none')
 
 -- no head begins with a digit
-by_digit : (b : ℕ) (rest : List ℕ) (t : Bool) → eqb b 97 ≡ t → is_ascii_digit b ≡ true → behind_head (b ∷ rest) ≡ None
-by_digit b rest true e digit = let never : ◌≡◌ {A = Bool} true false = sym digit ∙ ap is_ascii_digit (eqb-true b 97 e) in absurd (cc)
+by_digit : (b : ℕ) (rest : List ℕ) (t : Bool) → eqb 97 b ≡ t → is_ascii_digit b ≡ true → behind_head (b ∷ rest) ≡ None
+by_digit b rest true e digit = let never : ◌≡◌ {A = Bool} true false = sym digit ∙ sym (ap is_ascii_digit (eqb-true 97 b e)) in absurd (cc)
 by_digit b rest false e digit = rw e refl
 
 digits_first : (word rest : List ℕ) → is_numeral word ≡ true → list_all is_ascii_digit word ≡ true → behind_head (word ++ rest) ≡ None
 digits_first [] rest numeral digits = absurd (cc)
-digits_first (b ∷ bs) rest numeral digits = by_digit b (bs ++ rest) (eqb b 97) refl (and_parts (is_ascii_digit b) (list_all is_ascii_digit bs) digits).0
+digits_first (b ∷ bs) rest numeral digits = by_digit b (bs ++ rest) (eqb 97 b) refl (and_parts (is_ascii_digit b) (list_all is_ascii_digit bs) digits).0
 
 pub number_first : (n : ℕ) (rest : List ℕ) → n < 2 ^ 64 → behind_head (decimal n ++ rest) ≡ None
 number_first n rest small = digits_first (decimal n) rest (is_numeral-decimal n small) (all_digits n small)

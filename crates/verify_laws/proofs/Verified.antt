@@ -18,7 +18,6 @@ use Rattle.annot_check.specs.AnnotationText.{head_from, pieces_of}
 use Rattle.named_annotation.specs.Laws.{IsValidNamed}
 use Rattle.named_annotation.specs.NamedStates.{Named}
 use Rattle.named_annotation.specs.NamedText.{StatesNamed, counts_in, most_pairs, most_states, named_behind}
-use Rattle.named_annotation.specs.declared.words.Counts.{Counts}
 use Rattle.solve_ground.specs.declared.texts.SolveText.{SolveText}
 use Rattle.solved_text.specs.declared.documents.Verdict.{Verdict}
 use Rattle.solved_text.specs.declared.documents.Verdict.TheVariants.{Realizable, Unrealizable}
@@ -36,7 +35,7 @@ use Rattle.verify_answer.specs.Answer.{CircuitAnswers, owed_to}
 use Rattle.verify_answer.specs.Laws.{EnvironmentsAreDetermined, VerificationsAreDetermined}
 use Rattle.verify_laws.specs.Accepted.{AcceptedAreVerified, IsVerifiedAs}
 use Rattle.verify_laws.proofs.Headers.{header_skipped, logs_skipped, refuted_skipped, small_verdict}
-use Rattle.verify_laws.proofs.Moving.{HasHead, has_head, head_alike, headed_at, moved, read_again}
+use Rattle.verify_laws.proofs.Moving.{Counts, HasHead, has_head, head_alike, headed_at, moved, read_again}
 
 -- == numbers ==
 
