@@ -1,6 +1,6 @@
 -- The lines of a document of version 6 before its annotation are skipped.
-use Rattle.std.proofs.Common.{◌≡◌, ℕ, suc, ◌+◌, ◌<◌, ◌≤◌, ◌^◌, Bool, true, false, List, [], ◌∷◌, ◌++◌, length, refl, sym, ap, subst, ◌∙◌, append_assoc, decimal, arith}
-use Rattle.std.specs.Prelude.{All, codes, flat_map, IsTrue}
+use Rattle.std.proofs.Common.{◌≡◌, ℕ, suc, ◌<◌, ◌≤◌, ◌^◌, Bool, true, false, List, [], ◌∷◌, ◌++◌, length, refl, subst, append_assoc, decimal, arith}
+use Rattle.std.specs.Prelude.{All, codes, flat_map, if◌then◌else◌}
 use Rattle.std.proofs.lemmas.List.Elements.{All-append, All-cons}
 use Rattle.letters_and_lassos.specs.declared.kinds.Kind.{Kind}
 use Rattle.letters_and_lassos.specs.declared.kinds.Kind.TheVariants.{Mealy, Moore}
@@ -21,7 +21,7 @@ use Rattle.solved_text.specs.Lines.{head_line, header_text, log_part, refuted_li
 use Rattle.solved_text.specs.Parts.{Document, SizeLog}
 use Rattle.solved_text.specs.States.{IsSizeLog}
 use Rattle.solved_text.proofs.HeadLemmas.{head_lacks}
-use Rattle.verify_laws.proofs.Skipping.{Skipped, both_skipped, line_skipped, nothing_skipped, number_first, text_skipped, texts_skipped}
+use Rattle.verify_laws.proofs.Skipping.{BeginsWithDigit, Skipped, both_skipped, digit_before, digit_no_head, line_skipped, nothing_skipped, number_begins, text_skipped, texts_skipped}
 use Rattle.std.proofs.Common.{None}
 
 -- == the header ==
@@ -81,8 +81,8 @@ literals_lack [] small = none_lacks
 literals_lack (l ∷ clause) small =
     let first : l.var ≤ 2 ^ 30 = small 0 l (omega arith) in
     joined_lack (literal_word l) (flat_map literal_word clause)
-    (joined_lack (if l.positive then [] else 45 ∷ []) (decimal l.var ++ 32 ∷ []) (sign_lacks l.positive)
-    (joined_lack (decimal l.var) (32 ∷ []) (decimal-lacks 10 l.var refl (omega (arith, first))) (one_lacks 32 refl)))
+    (joined_lack ((if l.positive then [] else 45 ∷ []) ++ decimal l.var) (32 ∷ [])
+    (joined_lack (if l.positive then [] else 45 ∷ []) (decimal l.var) (sign_lacks l.positive) (decimal-lacks 10 l.var refl (omega (arith, first)))) (one_lacks 32 refl))
     (literals_lack clause (λ k d less. small (suc k) d (omega (arith, less))))
 
 hints_lack : (hints : List ℕ) → All (λ h. (0 < h) × (h < 2 ^ 64)) hints → Lacks 10 (flat_map hint_word hints)
@@ -92,32 +92,40 @@ hints_lack (h ∷ hints) small =
     (joined_lack (decimal h) (32 ∷ []) (decimal-lacks 10 h refl (small 0 h (omega arith)).1) (one_lacks 32 refl))
     (hints_lack hints (λ k d less. small (suc k) d (omega (arith, less))))
 
--- an entry's line without its end, behind the worker's number
-abbrev behind_worker : Entry → List ℕ
-behind_worker e = 32 ∷ (flat_map literal_word e.clause ++ (48 ∷ 32 ∷ (flat_map hint_word e.hints ++ 48 ∷ [])))
+-- an entry's line up to its last 0
+abbrev entry_front : Entry → List ℕ
+entry_front e = decimal e.by ++ 32 ∷ [] ++ flat_map literal_word e.clause ++ 48 ∷ 32 ∷ [] ++ flat_map hint_word e.hints
 
-entry_is : (e : Entry) → (decimal e.by ++ behind_worker e) ++ 10 ∷ [] ≡ entry_line e
-entry_is e =
-    append_assoc (decimal e.by) (behind_worker e) (10 ∷ [])
-    ∙ ap (λ (t : List ℕ). decimal e.by ++ 32 ∷ t)
-    (append_assoc (flat_map literal_word e.clause) (48 ∷ 32 ∷ (flat_map hint_word e.hints ++ 48 ∷ [])) (10 ∷ [])
-    ∙ ap (λ (t : List ℕ). flat_map literal_word e.clause ++ 48 ∷ 32 ∷ t) (append_assoc (flat_map hint_word e.hints) (48 ∷ []) (10 ∷ [])))
+entry_is : (e : Entry) → (entry_front e ++ 48 ∷ []) ++ 10 ∷ [] ≡ entry_line e
+entry_is e = append_assoc (entry_front e) (48 ∷ []) (10 ∷ [])
 
-behind_lacks : (vars : ℕ) (e : Entry) → IsWritable vars e → Lacks 10 (behind_worker e)
-behind_lacks vars e is =
-    joined_lack (32 ∷ []) (flat_map literal_word e.clause ++ (48 ∷ 32 ∷ (flat_map hint_word e.hints ++ 48 ∷ []))) (one_lacks 32 refl)
-    (joined_lack (flat_map literal_word e.clause) (48 ∷ 32 ∷ (flat_map hint_word e.hints ++ 48 ∷ [])) (literals_lack e.clause is.small)
-    (joined_lack (48 ∷ []) (32 ∷ (flat_map hint_word e.hints ++ 48 ∷ [])) (one_lacks 48 refl)
-    (joined_lack (32 ∷ []) (flat_map hint_word e.hints ++ 48 ∷ []) (one_lacks 32 refl)
-    (joined_lack (flat_map hint_word e.hints) (48 ∷ []) (hints_lack e.hints is.hints) (one_lacks 48 refl)))))
+two_lack : Lacks 10 (48 ∷ 32 ∷ [])
+two_lack = joined_lack (48 ∷ []) (32 ∷ []) (one_lacks 48 refl) (one_lacks 32 refl)
+
+front_lacks : (vars : ℕ) (e : Entry) → IsWritable vars e → e.by < 2 ^ 64 → Lacks 10 (entry_front e)
+front_lacks vars e is small =
+    joined_lack (decimal e.by ++ 32 ∷ [] ++ flat_map literal_word e.clause ++ 48 ∷ 32 ∷ []) (flat_map hint_word e.hints)
+    (joined_lack (decimal e.by ++ 32 ∷ [] ++ flat_map literal_word e.clause) (48 ∷ 32 ∷ [])
+    (joined_lack (decimal e.by ++ 32 ∷ []) (flat_map literal_word e.clause)
+    (joined_lack (decimal e.by) (32 ∷ []) (decimal-lacks 10 e.by refl small) (one_lacks 32 refl))
+    (literals_lack e.clause is.small)) two_lack)
+    (hints_lack e.hints is.hints)
+
+front_begins : (e : Entry) → e.by < 2 ^ 64 → BeginsWithDigit (entry_front e ++ 48 ∷ [])
+front_begins e small =
+    digit_before (entry_front e) (48 ∷ [])
+    (digit_before (decimal e.by ++ 32 ∷ [] ++ flat_map literal_word e.clause ++ 48 ∷ 32 ∷ []) (flat_map hint_word e.hints)
+    (digit_before (decimal e.by ++ 32 ∷ [] ++ flat_map literal_word e.clause) (48 ∷ 32 ∷ [])
+    (digit_before (decimal e.by ++ 32 ∷ []) (flat_map literal_word e.clause)
+    (digit_before (decimal e.by) (32 ∷ []) (number_begins e.by small)))))
 
 entry_skipped : (vars : ℕ) (e : Entry) → IsWritable vars e → Skipped (entry_line e)
 entry_skipped vars e is =
     let worker = is.worker in
     let small : e.by < 2 ^ 64 = omega (arith, worker) in
     subst Skipped (entry_is e)
-    (line_skipped (decimal e.by ++ behind_worker e) (joined_lack (decimal e.by) (behind_worker e) (decimal-lacks 10 e.by refl small) (behind_lacks vars e is))
-    (number_first e.by (behind_worker e) small))
+    (line_skipped (entry_front e ++ 48 ∷ []) (joined_lack (entry_front e) (48 ∷ []) (front_lacks vars e is small) (one_lacks 48 refl))
+    (digit_no_head (entry_front e ++ 48 ∷ []) (front_begins e small)))
 
 entries_skipped : (vars : ℕ) (entries : List Entry) → All (IsWritable vars) entries → Skipped (log_text entries)
 entries_skipped vars [] are = nothing_skipped

@@ -1,6 +1,6 @@
 -- An annotation is read alike whatever the line of its head is.
-use Rattle.std.proofs.Common.{◌≡◌, ◌==◌, ℕ, ◌+◌, Bool, true, false, ◌||◌, cond, Option, Some, None, List, [], ◌∷◌, ◌++◌, length, refl, sym, ap, ◌∙◌}
-use Rattle.std.specs.Prelude.{Result, Ok, Err, nat_lt, is_some, option_and_then}
+use Rattle.std.proofs.Common.{◌≡◌, ◌==◌, ℕ, ◌+◌, Bool, true, false, ◌||◌, Option, Some, None, List, [], ◌∷◌, ◌++◌, length, refl, sym, ap, ◌∙◌}
+use Rattle.std.specs.Prelude.{Result, Ok, Err, nat_lt, is_some, if◌then◌else◌}
 use Rattle.std.specs.Option.{option_map_or}
 use Rattle.std.specs.Str.{bytes_eq}
 use Rattle.std.specs.Prelude.{codes}
@@ -9,9 +9,15 @@ use Rattle.ltl_formula.specs.declared.nodes.Node.{Node}
 use Rattle.cobuchi_build.specs.declared.exploring.State.{State}
 use Rattle.annot_check.specs.declared.pairs.Pair.{Pair}
 use Rattle.annot_check.specs.AnnotationText.{Headed, behind_head, head_from, is_taken, pair_in, pairs_in}
-use Rattle.named_annotation.specs.declared.words.Counts.{Counts}
-use Rattle.named_annotation.specs.NamedStates.{Named, automaton_over}
+use Rattle.named_annotation.specs.NamedStates.{Named}
 use Rattle.named_annotation.specs.NamedText.{counts_in, named_behind, named_in, state_in, with_pairs}
+
+-- the counts of a head, by what reads them
+abbrev pub held : {A : Type 0} → Option A → Type 0
+held {A} o = A
+
+abbrev pub Counts : Type 0
+Counts = held (counts_in 0 [])
 
 -- with its head in another line
 abbrev pub moved : Named → ℕ → Named
@@ -27,32 +33,36 @@ module _ (latches states count : ℕ) where
       → pairs_in latches states count done parts m ≡ Ok pairs
   pairs_alike done [] n m pairs is = cc
   pairs_alike done (last ∷ []) n m pairs is = cc
-  pairs_alike done (line ∷ next ∷ more) n m pairs is = by (nat_lt (length done) count) is
+  pairs_alike done (line ∷ next ∷ more) n m pairs is =
+      by (nat_lt (length done) count) (λ pair later. pairs_alike (done ++ pair ∷ []) (next ∷ more) (n + 1) (m + 1) pairs later) is
     where
-      on_pair : (o : Option Pair)
+      on_taken : (pair : Pair) (b : Bool) → ((pair : Pair) → pairs_in latches states count (done ++ pair ∷ []) (next ∷ more) (n + 1) ≡ Ok pairs
+          → pairs_in latches states count (done ++ pair ∷ []) (next ∷ more) (m + 1) ≡ Ok pairs) → (if b then Err n else pairs_in latches states count (done ++ pair ∷ []) (next ∷ more) (n + 1)) ≡ Ok pairs
+          → (if b then Err m else pairs_in latches states count (done ++ pair ∷ []) (next ∷ more) (m + 1)) ≡ Ok pairs
+      on_taken pair true later is = cc
+      on_taken pair false later is = later pair is
+
+      on_pair : (o : Option Pair) → ((pair : Pair) → pairs_in latches states count (done ++ pair ∷ []) (next ∷ more) (n + 1) ≡ Ok pairs
+          → pairs_in latches states count (done ++ pair ∷ []) (next ∷ more) (m + 1) ≡ Ok pairs)
           → option_map_or (λ pair. if is_taken pair done then Err n else pairs_in latches states count (done ++ pair ∷ []) (next ∷ more) (n + 1)) o (Err n) ≡ Ok pairs
           → option_map_or (λ pair. if is_taken pair done then Err m else pairs_in latches states count (done ++ pair ∷ []) (next ∷ more) (m + 1)) o (Err m) ≡ Ok pairs
-      on_pair None is = cc
-      on_pair (Some pair) is = on_taken (is_taken pair done) is
-        where
-          on_taken : (b : Bool) → (if b then Err n else pairs_in latches states count (done ++ pair ∷ []) (next ∷ more) (n + 1)) ≡ Ok pairs
-              → (if b then Err m else pairs_in latches states count (done ++ pair ∷ []) (next ∷ more) (m + 1)) ≡ Ok pairs
-          on_taken true is = cc
-          on_taken false is = pairs_alike (done ++ pair ∷ []) (next ∷ more) (n + 1) (m + 1) pairs is
+      on_pair None later is = cc
+      on_pair (Some pair) later is = on_taken pair (is_taken pair done) later is
 
       on_end : (b : Bool) → (if b then Ok done else Err n) ≡ Ok pairs → (if b then Ok done else Err m) ≡ Ok pairs
       on_end true is = is
       on_end false is = cc
 
-      by : (b : Bool)
+      by : (b : Bool) → ((pair : Pair) → pairs_in latches states count (done ++ pair ∷ []) (next ∷ more) (n + 1) ≡ Ok pairs
+          → pairs_in latches states count (done ++ pair ∷ []) (next ∷ more) (m + 1) ≡ Ok pairs)
           → (if b
           then option_map_or (λ pair. if is_taken pair done then Err n else pairs_in latches states count (done ++ pair ∷ []) (next ∷ more) (n + 1)) (pair_in latches states line) (Err n)
           else (if bytes_eq line (codes "end") then Ok done else Err n)) ≡ Ok pairs
           → (if b
           then option_map_or (λ pair. if is_taken pair done then Err m else pairs_in latches states count (done ++ pair ∷ []) (next ∷ more) (m + 1)) (pair_in latches states line) (Err m)
           else (if bytes_eq line (codes "end") then Ok done else Err m)) ≡ Ok pairs
-      by true is = on_pair (pair_in latches states line) is
-      by false is = on_end (bytes_eq line (codes "end")) is
+      by true later is = on_pair (pair_in latches states line) later is
+      by false later is = on_end (bytes_eq line (codes "end")) is
 
 -- == the states ==
 
@@ -72,21 +82,26 @@ module _ (latches : ℕ) (ns : List Node) (f : FormulaId) (h k : ℕ) (counts : 
       → named_in latches ns f k counts done parts m ≡ Ok (moved named k)
   named_alike done [] n m named is = cc
   named_alike done (last ∷ []) n m named is = cc
-  named_alike done (line ∷ next ∷ more) n m named is = by (nat_lt (length done) counts.states) is
+  named_alike done (line ∷ next ∷ more) n m named is =
+      by (nat_lt (length done) counts.states) (λ state later. named_alike (done ++ state ∷ []) (next ∷ more) (n + 1) (m + 1) named later)
+      (λ listed. listed_alike done (line ∷ next ∷ more) n m named (pairs_in latches counts.states counts.pairs [] (line ∷ next ∷ more) n) refl listed) is
     where
-      on_state : (o : Option State)
+      on_state : (o : Option State) → ((state : State) → named_in latches ns f h counts (done ++ state ∷ []) (next ∷ more) (n + 1) ≡ Ok named
+          → named_in latches ns f k counts (done ++ state ∷ []) (next ∷ more) (m + 1) ≡ Ok (moved named k))
           → option_map_or (λ state. named_in latches ns f h counts (done ++ state ∷ []) (next ∷ more) (n + 1)) o (Err n) ≡ Ok named
           → option_map_or (λ state. named_in latches ns f k counts (done ++ state ∷ []) (next ∷ more) (m + 1)) o (Err m) ≡ Ok (moved named k)
-      on_state None is = cc
-      on_state (Some state) is = named_alike (done ++ state ∷ []) (next ∷ more) (n + 1) (m + 1) named is
+      on_state None later is = cc
+      on_state (Some state) later is = later state is
 
-      by : (b : Bool)
+      by : (b : Bool) → ((state : State) → named_in latches ns f h counts (done ++ state ∷ []) (next ∷ more) (n + 1) ≡ Ok named
+          → named_in latches ns f k counts (done ++ state ∷ []) (next ∷ more) (m + 1) ≡ Ok (moved named k)) → (with_pairs ns f h done (pairs_in latches counts.states counts.pairs [] (line ∷ next ∷ more) n) ≡ Ok named
+          → with_pairs ns f k done (pairs_in latches counts.states counts.pairs [] (line ∷ next ∷ more) m) ≡ Ok (moved named k))
           → (if b then option_map_or (λ state. named_in latches ns f h counts (done ++ state ∷ []) (next ∷ more) (n + 1)) (state_in ns f done line) (Err n)
           else with_pairs ns f h done (pairs_in latches counts.states counts.pairs [] (line ∷ next ∷ more) n)) ≡ Ok named
           → (if b then option_map_or (λ state. named_in latches ns f k counts (done ++ state ∷ []) (next ∷ more) (m + 1)) (state_in ns f done line) (Err m)
           else with_pairs ns f k done (pairs_in latches counts.states counts.pairs [] (line ∷ next ∷ more) m)) ≡ Ok (moved named k)
-      by true is = on_state (state_in ns f done line) is
-      by false is = listed_alike done (line ∷ next ∷ more) n m named (pairs_in latches counts.states counts.pairs [] (line ∷ next ∷ more) n) refl is
+      by true later listed is = on_state (state_in ns f done line) later is
+      by false later listed is = listed is
 
 -- == the head ==
 
@@ -102,22 +117,22 @@ head_alike (last ∷ []) n m head is = by ((length last == 0) || is_some (behind
     by : (b : Bool) → (if b then Err n else Err (n + 1)) ≡ Ok head → FoundAgain (last ∷ []) m head
     by true is = absurd (cc)
     by false is = absurd (cc)
-head_alike (line ∷ next ∷ more) n m head is = by (behind_head line) refl is
+head_alike (line ∷ next ∷ more) n m head is = by (behind_head line) (λ later. head_alike (next ∷ more) (n + 1) (m + 1) head later) refl is
   where
-    by : (o : Option (List ℕ)) → behind_head line ≡ o
+    at_line : Result Headed ℕ → Result Headed ℕ
+    at_line (Ok head) = Ok (headed_at head m)
+    at_line (Err line) = Err line
+
+    by : (o : Option (List ℕ)) → (head_from (next ∷ more) (n + 1) ≡ Ok head → FoundAgain (next ∷ more) (m + 1) head) → behind_head line ≡ o
         → option_map_or (λ word. Ok (record { word = word; line = n; parts = next ∷ more })) o (head_from (next ∷ more) (n + 1)) ≡ Ok head
         → FoundAgain (line ∷ next ∷ more) m head
-    by (Some word) e is = record {
+    by (Some word) later e is = record {
       line = m;
       found = ap (λ o. option_map_or (λ word. Ok (record { word = word; line = m; parts = next ∷ more })) o (head_from (next ∷ more) (m + 1))) e
           ∙ ap (λ (r : Result Headed ℕ). at_line r) is;
     }
-      where
-        at_line : Result Headed ℕ → Result Headed ℕ
-        at_line (Ok head) = Ok (headed_at head m)
-        at_line (Err line) = Err line
-    by None e is =
-        let more_found = head_alike (next ∷ more) (n + 1) (m + 1) head is in
+    by None later e is =
+        let more_found = later is in
         record {
           line = more_found.line;
           found = ap (λ o. option_map_or (λ word. Ok (record { word = word; line = m; parts = next ∷ more })) o (head_from (next ∷ more) (m + 1))) e ∙ more_found.found;

@@ -1,16 +1,16 @@
 -- Lines that are skipped where an annotation's head is looked for.
-use Rattle.std.proofs.Common.{◌≡◌, ℕ, ◌+◌, ◌<◌, ◌^◌, Bool, true, false, ◌&&◌, eqb, cond, Option, Some, None, List, [], ◌∷◌, ◌++◌, refl, sym, ap, ◌∙◌, append_assoc, append-nil, decimal, arith}
-use Rattle.std.specs.Prelude.{All, Result, Ok, flat_map}
+use Rattle.std.proofs.Common.{◌≡◌, ℕ, ◌+◌, ◌<◌, ◌^◌, Bool, true, false, eqb, Option, None, List, [], ◌∷◌, ◌++◌, refl, sym, ap, ◌∙◌, append_assoc, decimal}
+use Rattle.std.specs.Prelude.{Ok}
 use Rattle.std.specs.List.{list_all}
 use Rattle.std.specs.Option.{option_map_or}
 use Rattle.std.specs.Char.{is_ascii_digit}
 use Rattle.std.proofs.lemmas.Bool.{and_parts, eqb-true}
-use Rattle.aiger_text.specs.Words.{is_byte, is_numeral}
+use Rattle.aiger_text.specs.Words.{is_numeral}
 use Rattle.aiger_text.specs.CircuitText.{text_of_lines}
 use Rattle.aiger_text.proofs.Numbers.{Lacks, all_digits, is_numeral-decimal}
 use Rattle.aiger_text.proofs.Scanning.{HasPiece, cuts, has_piece}
 use Rattle.document_text.proofs.LineRead.{line_there}
-use Rattle.annot_check.specs.AnnotationText.{Headed, behind_head, head_from, pieces_of}
+use Rattle.annot_check.specs.AnnotationText.{behind_head, head_from, pieces_of}
 
 -- behind these bytes the head is looked for in what stands behind them
 pub record Skipped (text : List ℕ) : Type 0 where
@@ -54,13 +54,27 @@ texts_skipped one two lacks none lacks' none' =
     both_skipped (one ++ 10 ∷ []) (text_of_lines (two ∷ [])) (line_skipped one lacks none) (text_skipped two lacks' none')
 
 -- no head begins with a digit
-by_digit : (b : ℕ) (rest : List ℕ) (t : Bool) → eqb b 97 ≡ t → is_ascii_digit b ≡ true → behind_head (b ∷ rest) ≡ None
-by_digit b rest true e digit = let never : ◌≡◌ {A = Bool} true false = sym digit ∙ ap is_ascii_digit (eqb-true b 97 e) in absurd (cc)
+by_digit : (b : ℕ) (rest : List ℕ) (t : Bool) → eqb 97 b ≡ t → is_ascii_digit b ≡ true → behind_head (b ∷ rest) ≡ None
+by_digit b rest true e digit = let never : ◌≡◌ {A = Bool} true false = sym digit ∙ sym (ap is_ascii_digit (eqb-true 97 b e)) in absurd (cc)
 by_digit b rest false e digit = rw e refl
 
-digits_first : (word rest : List ℕ) → is_numeral word ≡ true → list_all is_ascii_digit word ≡ true → behind_head (word ++ rest) ≡ None
-digits_first [] rest numeral digits = absurd (cc)
-digits_first (b ∷ bs) rest numeral digits = by_digit b (bs ++ rest) (eqb b 97) refl (and_parts (is_ascii_digit b) (list_all is_ascii_digit bs) digits).0
+-- a text that begins with a digit
+pub record BeginsWithDigit (text : List ℕ) : Type 0 where
+  pub first : ℕ
+  pub rest : List ℕ
+  pub text_is : text ≡ first ∷ rest
+  pub digit : is_ascii_digit first ≡ true
 
-pub number_first : (n : ℕ) (rest : List ℕ) → n < 2 ^ 64 → behind_head (decimal n ++ rest) ≡ None
-number_first n rest small = digits_first (decimal n) rest (is_numeral-decimal n small) (all_digits n small)
+pub digit_no_head : (text : List ℕ) → BeginsWithDigit text → behind_head text ≡ None
+digit_no_head text is = ap behind_head is.text_is ∙ by_digit is.first is.rest (eqb 97 is.first) refl is.digit
+
+pub digit_before : (text more : List ℕ) → BeginsWithDigit text → BeginsWithDigit (text ++ more)
+digit_before text more is = record { first = is.first; rest = is.rest ++ more; text_is = ap (λ (t : List ℕ). t ++ more) is.text_is; digit = is.digit }
+
+digits_begin : (word : List ℕ) → is_numeral word ≡ true → list_all is_ascii_digit word ≡ true → BeginsWithDigit word
+digits_begin [] numeral digits = absurd (cc)
+digits_begin (b ∷ bs) numeral digits =
+    record { first = b; rest = bs; text_is = refl; digit = (and_parts (is_ascii_digit b) (list_all is_ascii_digit bs) digits).0 }
+
+pub number_begins : (n : ℕ) → n < 2 ^ 64 → BeginsWithDigit (decimal n)
+number_begins n small = digits_begin (decimal n) (is_numeral-decimal n small) (all_digits n small)

@@ -1,15 +1,15 @@
 -- What is accepted is verified.
-use Rattle.std.proofs.Common.{◌≡◌, ℕ, ◌+◌, ◌<◌, ◌≤◌, ◌^◌, Bool, true, false, Option, Some, None, List, [], ◌∷◌, ◌++◌, length, refl, sym, ap, subst, ◌∙◌, arith, decimal}
-use Rattle.std.specs.Prelude.{All, Ok, IsTrue, drop, flat_map, option_map}
+use Rattle.std.proofs.Common.{◌≡◌, ◌==◌, ℕ, ◌<◌, ◌≤◌, ◌^◌, true, Option, Some, None, List, [], ◌∷◌, ◌++◌, length, refl, sym, ap, subst, ◌∙◌, arith, decimal}
+use Rattle.std.specs.Prelude.{Ok, IsTrue, drop, flat_map, option_map}
 use Rattle.std_lemmas.proofs.Options.{chained_some}
 use Rattle.letters_and_lassos.specs.declared.kinds.Kind.{Kind}
 use Rattle.letters_and_lassos.specs.declared.kinds.Side.{Side}
 use Rattle.letters_and_lassos.specs.declared.kinds.Side.TheVariants.{System, Environment}
 use Rattle.aiger_text.specs.Words.{cut_at, number_within}
 use Rattle.aiger_text.specs.Circuit.{Circuit}
-use Rattle.aiger_text.specs.CircuitFile.{File}
 use Rattle.aiger_text.specs.CircuitText.{text_of_lines}
 use Rattle.aiger_text.proofs.Numbers.{cut_at-none, decimal-lacks}
+use Rattle.aiger_text.proofs.Scanning.{cuts, no_cut}
 use Rattle.document_text.proofs.LineRead.{number_is}
 use Rattle.document_text.proofs.HeaderWhole.{in_range_bounds}
 use Rattle.circuit_names.specs.Names.{HasNames}
@@ -18,34 +18,33 @@ use Rattle.annot_check.specs.AnnotationText.{head_from, pieces_of}
 use Rattle.named_annotation.specs.Laws.{IsValidNamed}
 use Rattle.named_annotation.specs.NamedStates.{Named}
 use Rattle.named_annotation.specs.NamedText.{StatesNamed, counts_in, most_pairs, most_states, named_behind}
-use Rattle.named_annotation.specs.declared.words.Counts.{Counts}
 use Rattle.solve_ground.specs.declared.texts.SolveText.{SolveText}
 use Rattle.solved_text.specs.declared.documents.Verdict.{Verdict}
 use Rattle.solved_text.specs.declared.documents.Verdict.TheVariants.{Realizable, Unrealizable}
 use Rattle.solved_text.specs.Header.{is_number_of_states}
 use Rattle.solved_text.specs.Lines.{body_text, header_text, log_part, refuted_line, rest_text}
 use Rattle.solved_text.specs.Parts.{Document}
-use Rattle.solved_text.specs.States.{HasText, IsShown, IsShownBy, IsSizeLog, StandsBehind}
+use Rattle.solved_text.specs.States.{HasText, IsShown, IsShownBy, StandsBehind}
 use Rattle.solve_check.specs.Accepted.{IsAcceptedSolved}
 use Rattle.solve_check.specs.Given.{form_for, kind_for, names_in}
 use Rattle.solve_check.specs.Holds.{HasCircuit, HasWhatIsSaid}
 use Rattle.circuit_check.specs.FirstBad as circuits
 use Rattle.circuit_check.specs.Forms.{NamesStates, has_two_words, head_names}
-use Rattle.circuit_check.proofs.TwoWords.{two_words}
 use Rattle.verify_answer.specs.Answer.{CircuitAnswers, owed_to}
 use Rattle.verify_answer.specs.Laws.{EnvironmentsAreDetermined, VerificationsAreDetermined}
 use Rattle.verify_laws.specs.Accepted.{AcceptedAreVerified, IsVerifiedAs}
 use Rattle.verify_laws.proofs.Headers.{header_skipped, logs_skipped, refuted_skipped, small_verdict}
-use Rattle.verify_laws.proofs.Moving.{HasHead, has_head, head_alike, headed_at, moved, read_again}
+use Rattle.verify_laws.proofs.Moving.{Counts, HasHead, has_head, head_alike, headed_at, moved, read_again}
 
 -- == numbers ==
 
-is_true : (b : Bool) → IsTrue b → b ≡ true
-is_true true yes = refl
-is_true false yes = cc
-
 few_states : (n : ℕ) → IsTrue (is_number_of_states n) → n ≤ 65536
-few_states n is = (in_range_bounds 1 65536 n (is_true (is_number_of_states n) is)).1
+few_states n is = (in_range_bounds 1 65536 n is).1
+
+-- a word that is cut once is two words
+two_words : (line word rest : List ℕ) → cut_at 32 line ≡ Some (word, rest) → cut_at 32 rest ≡ None → has_two_words line ≡ true
+two_words line word rest cut none =
+    ap (λ (ws : List (List ℕ)). length ws == 2) ((cuts 32 line word rest cut).pieces ∙ ap (λ (ws : List (List ℕ)). word ∷ ws) (no_cut 32 rest none))
 
 -- the head of an annotation over named states has two words behind its first one
 counted_words : (inputs : ℕ) (word : List ℕ) (counts : Counts) → counts_in inputs word ≡ Some counts → has_two_words word ≡ true
@@ -88,7 +87,7 @@ module _ (t : SolveText) (side : Side) (n : ℕ) (bytes : List ℕ) (d : Documen
   few_logs = (let fewer : length d.logs < n = shown.fewer in let most : n ≤ 65536 = few_states n shown.number in omega (arith, fewer, most))
 
   -- the line from which on the head is looked for in the annotation
-  behind_lines : (m : ℕ) × (head_from (pieces_of (body_text d)) 1 ≡ head_from (pieces_of d.annotation) m)
+  pub behind_lines : (m : ℕ) × (head_from (pieces_of (body_text d)) 1 ≡ head_from (pieces_of d.annotation) m)
   behind_lines =
       let logs : List ℕ = flat_map log_part d.logs in
       let refuted : List ℕ = text_of_lines (refuted_line (length d.logs) ∷ []) in
@@ -97,22 +96,22 @@ module _ (t : SolveText) (side : Side) (n : ℕ) (bytes : List ℕ) (d : Documen
       let r = (logs_skipped d.logs shown.all).skips d.annotation q.0 in
       (r.0, ap (λ (rest : List ℕ). head_from (pieces_of (header_text d ++ rest)) 1) rest_is ∙ p.1 ∙ q.1 ∙ r.1)
 
-  abbrev latches : ℕ
+  abbrev pub latches : ℕ
   latches = length has.circuit.latches
 
-  abbrev inputs : ℕ
+  abbrev pub inputs : ℕ
   inputs = length has.circuit.inputs
 
-  head : HasHead latches inputs t.formulas (form_for t side) (pieces_of d.annotation) has.annotation.named
+  pub head : HasHead latches inputs t.formulas (form_for t side) (pieces_of d.annotation) has.annotation.named
   head = has_head latches inputs t.formulas (form_for t side) (pieces_of d.annotation) has.annotation.named has.annotation.stated
 
-  abbrev head_line : ℕ
+  abbrev pub head_line : ℕ
   head_line = (head_alike (pieces_of d.annotation) 1 behind_lines.0 head.head head.found).line
 
   head_is : head_from (pieces_of (body_text d)) 1 ≡ Ok (headed_at head.head head_line)
   head_is = behind_lines.1 ∙ (head_alike (pieces_of d.annotation) 1 behind_lines.0 head.head head.found).found
 
-  abbrev named : Named
+  abbrev pub named : Named
   named = moved has.annotation.named head_line
 
   stated : StatesNamed (body_text d) latches inputs t.formulas (form_for t side) named
