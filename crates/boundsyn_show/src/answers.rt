@@ -172,6 +172,9 @@ fn proofs_text<R: Files>(
         Err(TextFault::Refused(line)) => {
             return Err(Fault::of(alloc, TextFault::Refused(line), text)?);
         }
+        Err(TextFault::RefusedBySolve(line)) => {
+            return Err(Fault::of(alloc, TextFault::RefusedBySolve(line), text)?);
+        }
         Err(other) => return Err(Fault::of(alloc, other, document)?),
     };
     let mut names = Vec::new(alloc);
