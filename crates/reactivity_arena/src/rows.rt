@@ -1,6 +1,6 @@
 //! What the monitors of a game are there for.
 
-use conjunct_monitors::{Diagrams, Meter, Monitor, Order, Stop};
+use conjunct_monitors::{Diagrams, Limit, Meter, Monitor, Order, Stop};
 use conjuncts::{Class, Conjunct, Forms};
 use std::alloc::Global;
 
@@ -50,7 +50,7 @@ impl Cast {
         meter: &mut Meter,
     ) -> Result<(), Stop> {
         let monitor = Monitor::new(alloc, forms, conjunct, order, meter)?;
-        let mark = self.next_mark(conjunct.class, is_assumption)?;
+        let mark = self.next_mark(conjunct.class, is_assumption, meter)?;
         self.monitors.push(monitor)?;
         self.roles.push(Role {
             is_assumption,
@@ -60,7 +60,7 @@ impl Cast {
         Ok(())
     }
 
-    fn next_mark(&mut self, class: Class, is_assumption: bool) -> Result<u64, Stop> {
+    fn next_mark(&mut self, class: Class, is_assumption: bool, meter: &Meter) -> Result<u64, Stop> {
         if class == Class::Safety {
             return Ok(0);
         }
@@ -70,7 +70,7 @@ impl Cast {
             &mut self.goals
         };
         if *count >= MOST_MARKS {
-            return Err(Stop::NoShape);
+            return Err(meter.passed(Limit::Conjuncts));
         }
         let mark = mark_of(*count);
         *count = count.saturating_add(1);

@@ -11,6 +11,7 @@ use solve_ground::{SolveText, solve_text};
 use spec_problems::{TextProblems, text_problems};
 use std::alloc::{AllocError, Global};
 use std::thread::Threads;
+use time_limits::NoDeadline;
 
 const TEXTS: u32 = 120;
 
@@ -96,7 +97,7 @@ impl Tally {
             edges: 1_000_000,
             bytes: 100_000_000,
         };
-        let outcome = reactivity_machine::find(alloc, question, budget)?;
+        let outcome = reactivity_machine::find(alloc, question, budget, &NoDeadline)?;
         let reactivity_machine::Outcome::Found(found) = outcome else {
             return Ok(None);
         };
@@ -128,7 +129,7 @@ fn other_winner<R: Threads>(
         positions: 100_000,
         bytes: 100_000_000,
     };
-    match game_machine::find(rt, alloc, contest, budget, 1)? {
+    match game_machine::find(rt, alloc, contest, budget, 1, &NoDeadline)? {
         game_machine::Outcome::Found(found) => Ok(Some(found.side)),
         _ => Ok(None),
     }

@@ -9,6 +9,7 @@ use reactivity_machine::{Budget, Limit, Outcome, Question, Why, find};
 use solve_ground::{SolveText, solve_text};
 use spec_problems::{TextProblems, text_problems};
 use std::alloc::{AllocError, Global};
+use time_limits::NoDeadline;
 
 /// A heading, and what comes of its text.
 pub(crate) fn push_row(
@@ -34,7 +35,7 @@ fn push_play(
     text: &[u8],
     known: &SolveText,
 ) -> Result<(), AllocError> {
-    match find(alloc, question(heading, known), budget(heading))? {
+    match find(alloc, question(heading, known), budget(heading), &NoDeadline)? {
         Outcome::Found(found) => push_found(alloc, out, text, found.side, &found.circuit),
         Outcome::NoWin(why) => out.extend_from_slice(words_of(why)),
         Outcome::NoCircuit(_) => out.extend_from_slice(b"no circuit\n"),
@@ -87,6 +88,9 @@ fn words_of(why: Why) -> &'static [u8] {
         Why::Passed(Limit::Positions, _) => b"too many positions\n",
         Why::Passed(Limit::Edges, _) => b"too many edges\n",
         Why::Passed(Limit::Bytes, _) => b"too many bytes\n",
+        Why::Passed(Limit::Conjuncts, _) => b"too many conjuncts\n",
+        Why::Passed(Limit::StrategyStates, _) => b"too many states of a strategy\n",
+        Why::Time => b"the time is over\n",
     }
 }
 
