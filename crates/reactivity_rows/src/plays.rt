@@ -35,7 +35,12 @@ fn push_play(
     text: &[u8],
     known: &SolveText,
 ) -> Result<(), AllocError> {
-    match find(alloc, question(heading, known), budget(heading), &NoDeadline)? {
+    match find(
+        alloc,
+        question(heading, known),
+        budget(heading),
+        &NoDeadline,
+    )? {
         Outcome::Found(found) => push_found(alloc, out, text, found.side, &found.circuit),
         Outcome::NoWin(why) => out.extend_from_slice(words_of(why)),
         Outcome::NoCircuit(_) => out.extend_from_slice(b"no circuit\n"),
