@@ -15,13 +15,14 @@ use solve_answer::Refuting;
 use std::alloc::{AllocError, Global};
 use std::sync::Wait;
 use std::thread::Threads;
+use time_limits::Stopwatch;
 
 /// The answers to texts of these names, in their order, as `batch_answer` of batch_answer writes them: each is that of `solve` to its text
 /// alone, whose machines are of the given kind. So many workers share the texts as are to refute; each text is solved by one of them. What is
 /// told of each answer the listener hears in the order of the texts, once all are made.
 ///
-/// It waits for the workers, each of which passes the gate as `run_all` of batch_run says.
-pub fn solve_batch<R: Threads + Wait + Sync, G: Gate + Sync, L: Listener>(
+/// It waits for the workers, each of which passes the gate as `run_all` of batch_run says. The time of each text is its own.
+pub fn solve_batch<R: Threads + Wait + Sync, G: Gate + Sync, S: Stopwatch + Sync, L: Listener>(
     rt: &R,
     alloc: Global,
     names: &[FileName],
@@ -29,6 +30,7 @@ pub fn solve_batch<R: Threads + Wait + Sync, G: Gate + Sync, L: Listener>(
     given: Option<Kind>,
     refuting: Refuting,
     gate: &G,
+    stopwatch: &S,
     listener: &mut L,
 ) -> Result<Reply, AllocError>
     requires one_each { length names.now ≡ length texts.now }
@@ -37,7 +39,7 @@ pub fn solve_batch<R: Threads + Wait + Sync, G: Gate + Sync, L: Listener>(
     ensures done { IfOk result (λ r. r.status ≡ Status.Done) }
     ensures answers { (files : List (List ℕ)) → AreTexts texts.now files → IfOk result (λ r. SolvedBatchAnswers names.now files (record { given = given; limits = limits_of refuting }) r.bytes.items) }
 {
-    let job = Solving::new(alloc, given, refuting);
+    let job = Solving::new(alloc, given, refuting, stopwatch);
     let replies = run_all(rt, alloc, &job, texts, refuting.workers, gate)?;
     hear_all(listener, &replies);
     Ok(Reply {

@@ -14,16 +14,18 @@ use std::alloc::{AllocError, Global};
 use std::marker::Model;
 use std::sync::Wait;
 use std::thread::Threads;
+use time_limits::Stopwatch;
 
 /// The job of solving texts, each by the worker that takes it alone. A contract sees the kind that is given, and how far documents may refute.
 #[derive(Drop)]
-pub struct Solving {
+pub struct Solving<'a, S: Stopwatch> {
     alloc: Global,
     given: Option<Kind>,
     refuting: Refuting,
+    stopwatch: &'a S,
 }
 
-impl Model for Solving {
+impl<S: Stopwatch> Model for Solving<'_, S> {
     ghost use Rattle.solve_answer.specs.Parts.{limits_of};
     ghost use Rattle.solve_batch.specs.SolvedBatch.{AskedOfEach};
 
@@ -32,9 +34,14 @@ impl Model for Solving {
     ghost view = { λ job. record { given = job.given; limits = limits_of job.refuting } };
 }
 
-impl Solving {
+impl<'a, S: Stopwatch + Sync> Solving<'a, S> {
     /// With a kind in place of the texts' own, if one is given.
-    pub fn new(alloc: Global, given: Option<Kind>, refuting: Refuting) -> Solving
+    pub fn new(
+        alloc: Global,
+        given: Option<Kind>,
+        refuting: Refuting,
+        stopwatch: &'a S,
+    ) -> Solving<'a, S>
         ensures { result ≡ record { given = given; limits = limits_of refuting } }
     {
         Solving {
@@ -44,6 +51,7 @@ impl Solving {
                 workers: 1,
                 ..refuting
             },
+            stopwatch,
         }
     }
 
@@ -59,12 +67,13 @@ impl Solving {
             GAME_BUDGET,
             self.refuting,
             &OpenGate,
+            self.stopwatch,
             &mut NoListener,
         )
     }
 }
 
-impl Job for Solving {
+impl<S: Stopwatch + Sync> Job for Solving<'_, S> {
     ghost use Rattle.solve_batch.specs.SolvedBatch.{IsSolvedReply};
 
     type Task = TakenText;

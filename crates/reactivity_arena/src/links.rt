@@ -4,14 +4,14 @@ use std::alloc::{AllocError, Global};
 
 /// A number that another leads to, and the signals of one player that are there on the way.
 #[derive(Clone, Copy)]
-pub(crate) struct Link {
-    pub(crate) target: u32,
-    pub(crate) letter: u64,
+pub struct Link {
+    pub target: u32,
+    pub letter: u64,
 }
 
 /// For each number its links.
 #[derive(Drop)]
-pub(crate) struct Links {
+pub struct Links {
     /// Where the links of each number end; the first starts at 0.
     ends: Vec<usize>,
     links: Vec<Link>,
@@ -26,12 +26,12 @@ impl Links {
     }
 
     /// How many numbers have lists.
-    pub(crate) fn count(&self) -> usize {
+    pub fn count(&self) -> usize {
         self.ends.len()
     }
 
     /// How many links there are.
-    pub(crate) fn size(&self) -> usize {
+    pub fn size(&self) -> usize {
         self.links.len()
     }
 
@@ -47,7 +47,8 @@ impl Links {
         Ok(())
     }
 
-    pub(crate) fn of(&self, number: usize) -> &[Link] {
+    /// The links of a number.
+    pub fn of(&self, number: usize) -> &[Link] {
         let start = match number.checked_sub(1) {
             Some(before) => self.ends.get(before).copied().unwrap_or(0),
             None => 0,

@@ -1,6 +1,6 @@
 //! What the monitors of a game are there for.
 
-use conjunct_monitors::{Diagrams, Meter, Monitor, Order, Stop};
+use conjunct_monitors::{Diagrams, Limit, Meter, Monitor, Order, Stop};
 use conjuncts::{Class, Conjunct, Forms};
 use std::alloc::Global;
 
@@ -15,7 +15,7 @@ pub(crate) struct Role {
 
 /// The monitors of a game with their roles.
 #[derive(Drop)]
-pub(crate) struct Cast {
+pub struct Cast {
     pub(crate) monitors: Vec<Monitor>,
     pub(crate) roles: Vec<Role>,
     /// The diagrams of the monitors' edges.
@@ -29,7 +29,7 @@ pub(crate) struct Cast {
 const MOST_MARKS: u32 = 64;
 
 impl Cast {
-    pub(crate) fn new(alloc: Global) -> Cast {
+    pub fn new(alloc: Global) -> Cast {
         Cast {
             monitors: Vec::new(alloc),
             roles: Vec::new(alloc),
@@ -40,7 +40,7 @@ impl Cast {
     }
 
     /// Adds the monitor of a conjunct.
-    pub(crate) fn add(
+    pub fn add(
         &mut self,
         alloc: Global,
         forms: &Forms,
@@ -50,7 +50,7 @@ impl Cast {
         meter: &mut Meter,
     ) -> Result<(), Stop> {
         let monitor = Monitor::new(alloc, forms, conjunct, order, meter)?;
-        let mark = self.next_mark(conjunct.class, is_assumption)?;
+        let mark = self.next_mark(conjunct.class, is_assumption, meter)?;
         self.monitors.push(monitor)?;
         self.roles.push(Role {
             is_assumption,
@@ -60,7 +60,7 @@ impl Cast {
         Ok(())
     }
 
-    fn next_mark(&mut self, class: Class, is_assumption: bool) -> Result<u64, Stop> {
+    fn next_mark(&mut self, class: Class, is_assumption: bool, meter: &Meter) -> Result<u64, Stop> {
         if class == Class::Safety {
             return Ok(0);
         }
@@ -70,7 +70,7 @@ impl Cast {
             &mut self.goals
         };
         if *count >= MOST_MARKS {
-            return Err(Stop::NoShape);
+            return Err(meter.passed(Limit::Conjuncts));
         }
         let mark = mark_of(*count);
         *count = count.saturating_add(1);
@@ -128,6 +128,6 @@ impl Cast {
 }
 
 /// The mark of a number.
-pub(crate) fn mark_of(number: u32) -> u64 {
+pub fn mark_of(number: u32) -> u64 {
     1u64.checked_shl(number).unwrap_or(0)
 }
