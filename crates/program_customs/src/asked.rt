@@ -13,7 +13,7 @@ impl Asked {
     fn by(word: &str) -> Option<Asked> {
         match word {
             "--help" | "-h" => Some(Asked::Help),
-            "--version" => Some(Asked::Version),
+            "--version" | "-V" => Some(Asked::Version),
             _ => None,
         }
     }

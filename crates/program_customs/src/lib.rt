@@ -6,10 +6,12 @@
 #![tactic(auto)]
 
 mod asked;
+mod messages;
 mod outputs;
 mod standard_input;
 mod targets;
 
 pub use asked::{Asked, asked_of, take_output};
+pub use messages::{twice_message, unwritten_message};
 pub use outputs::ProgramOutput;
 pub use standard_input::{file_of, is_input, with_input};
