@@ -4,6 +4,7 @@ ghost use Rattle.program_replies.specs.Statuses.{status_number};
 ghost use Rattle.solve_answer.specs.Answer.{SolveAnswers};
 ghost use Rattle.solve_answer.specs.Parts.{AnswersEach, CanBePlayed, limits_of};
 
+use crate::deadlines::{Deadlines, seconds_for_sizes};
 use crate::discoveries::{Discovery, Found};
 use crate::documents::{strategy_document, unknown_text};
 use crate::finding::{Search, find_strategy};
@@ -19,6 +20,7 @@ use outcome_news::{ConjunctEnd, Listener, News, Told, ToldReply, Unsolved, Withh
 use program_replies::{Reply, Status, refusal};
 use solve_ground::{SolveText, solve_text};
 use std::alloc::{AllocError, Global};
+use std::mem::forget;
 use std::sync::Wait;
 use std::thread::Threads;
 use time_limits::{Deadline, Stopwatch, TextDeadline};
@@ -52,11 +54,39 @@ pub fn solve<R: Threads + Wait + Sync, G: Gate + Sync, S: Stopwatch + Sync, L: L
 ) -> Result<ToldReply, AllocError>
     ensures { IfOk result (λ s. SolveAnswers text.now given (limits_of refuting) s.reply.bytes.items (status_number s.reply.status)) }
 {
-    let deadline = TextDeadline::begin(stopwatch, refuting.seconds);
+    let all = TextDeadline::begin(stopwatch, refuting.seconds);
+    let sizes = TextDeadline::begin(stopwatch, seconds_for_sizes(refuting.seconds));
+    let told = answer_to(
+        rt, alloc, text, given, budget, refuting, gate, &all, &sizes, listener,
+    );
+    // They are references and numbers, so there is nothing to be let go.
+    forget(all);
+    forget(sizes);
+    told
+}
+
+/// The same until deadlines.
+fn answer_to<R: Threads + Wait + Sync, G: Gate + Sync, D: Deadline + Sync, L: Listener>(
+    rt: &R,
+    alloc: Global,
+    text: &[u8],
+    given: Option<Kind>,
+    budget: Budget,
+    refuting: Refuting,
+    gate: &G,
+    all: &D,
+    sizes: &D,
+    listener: &mut L,
+) -> Result<ToldReply, AllocError>
+    ensures { IfOk result (λ s. SolveAnswers text.now given (limits_of refuting) s.reply.bytes.items (status_number s.reply.status)) }
+{
     match solve_text(alloc, text, given) {
-        Ok(known) => answer(
-            rt, alloc, &known, budget, refuting, gate, &deadline, listener,
-        ),
+        Ok(known) => {
+            let deadlines = Deadlines { all, sizes };
+            answer(
+                rt, alloc, &known, budget, refuting, gate, &deadlines, listener,
+            )
+        }
         Err(fault) => Ok(ToldReply {
             reply: refusal(alloc, fault)?,
             told: Told::Refused,
@@ -72,16 +102,16 @@ fn answer<R: Threads + Wait + Sync, G: Gate + Sync, D: Deadline + Sync, L: Liste
     budget: Budget,
     refuting: Refuting,
     gate: &G,
-    deadline: &D,
+    deadlines: &Deadlines<'_, '_, D>,
     listener: &mut L,
 ) -> Result<ToldReply, AllocError>
     requires { CanBePlayed text.now }
     ensures { IfOk result (λ s. AnswersEach text.now refuting s.reply) }
 {
     listener.hear(News::Playing);
-    match find_any(rt, alloc, text, budget, refuting, gate, deadline, listener)? {
+    match find_any(rt, alloc, text, budget, refuting, gate, deadlines, listener)? {
         Found::Of(discovery) => of_strategy(
-            rt, alloc, text, discovery, refuting, gate, deadline, listener,
+            rt, alloc, text, discovery, refuting, gate, deadlines, listener,
         ),
         Found::Without(why, conjuncts) => unknown(alloc, text, why, conjuncts, refuting),
     }
@@ -95,19 +125,21 @@ fn find_any<R: Threads + Wait + Sync, G: Gate + Sync, D: Deadline + Sync, L: Lis
     budget: Budget,
     refuting: Refuting,
     gate: &G,
-    deadline: &D,
+    deadlines: &Deadlines<'_, '_, D>,
     listener: &mut L,
 ) -> Result<Found, AllocError>
     requires { CanBePlayed text.now }
 {
-    match find_strategy(rt, alloc, text, budget, refuting.workers, deadline)? {
+    match find_strategy(rt, alloc, text, budget, refuting.workers, deadlines.all)? {
         Search::Of(strategy, engine) => Ok(Found::Of(Discovery::new(strategy, engine))),
         Search::Without(why, conjuncts) => {
             if refuting.max == Some(0) {
                 return Ok(Found::Without(why, conjuncts));
             }
-            listener.hear(News::Searching);
-            search_sizes(rt, alloc, text, why, conjuncts, refuting, gate, deadline)
+            if !deadlines.sizes.is_over() {
+                listener.hear(News::Searching);
+            }
+            search_sizes(rt, alloc, text, why, conjuncts, refuting, gate, deadlines)
         }
     }
 }
@@ -120,7 +152,7 @@ fn of_strategy<R: Threads + Wait + Sync, G: Gate + Sync, D: Deadline + Sync, L: 
     discovery: Discovery,
     refuting: Refuting,
     gate: &G,
-    deadline: &D,
+    deadlines: &Deadlines<'_, '_, D>,
     listener: &mut L,
 ) -> Result<ToldReply, AllocError>
     requires { CanBePlayed text.now }
@@ -145,7 +177,7 @@ fn of_strategy<R: Threads + Wait + Sync, G: Gate + Sync, D: Deadline + Sync, L: 
     }
     listener.hear(News::Found(solution.side, solution.states));
     let plain = Plain { solution, document };
-    let longer = with_logs(rt, alloc, text, plain, below, refuting, gate, deadline);
+    let longer = with_logs(rt, alloc, text, plain, below, refuting, gate, deadlines);
     let told = Told::Found(longer.solution);
     let reply = better_of(text, refuting, longer.reply, reply);
     Ok(ToldReply { reply, told })

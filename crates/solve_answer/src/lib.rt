@@ -8,6 +8,7 @@
 
 mod answering;
 mod conjunct_game;
+mod deadlines;
 mod discoveries;
 mod documents;
 mod finding;

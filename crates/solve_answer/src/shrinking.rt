@@ -2,6 +2,7 @@
 ghost use Rattle.std.specs.Prelude.{IfOk, IfSome};
 ghost use Rattle.solve_answer.specs.Parts.{AnswersEach, CanBePlayed};
 
+use crate::deadlines::Deadlines;
 use crate::documents::strategy_document;
 use crate::finding::Strategy;
 use crate::reducing::{strategy_of, with_fewer_gates};
@@ -57,13 +58,13 @@ pub(crate) fn with_logs<R: Threads + Wait + Sync, G: Gate + Sync, D: Deadline + 
     below: Option<Refutations>,
     refuting: Refuting,
     gate: &G,
-    deadline: &D,
+    deadlines: &Deadlines<'_, '_, D>,
 ) -> Longer
     requires { CanBePlayed text.now }
     ensures { IfSome result.reply (AnswersEach text.now refuting) }
 {
     let solution = plain.solution;
-    match make_longer(rt, alloc, text, plain, below, refuting, gate, deadline) {
+    match make_longer(rt, alloc, text, plain, below, refuting, gate, deadlines) {
         Ok(longer) => longer,
         Err(_) => Longer::nothing(solution, RefutingEnd::NoMemory),
     }
@@ -77,7 +78,7 @@ fn make_longer<R: Threads + Wait + Sync, G: Gate + Sync, D: Deadline + Sync>(
     below: Option<Refutations>,
     refuting: Refuting,
     gate: &G,
-    deadline: &D,
+    deadlines: &Deadlines<'_, '_, D>,
 ) -> Result<Longer, AllocError>
     requires { CanBePlayed text.now }
     ensures { IfOk result (λ l. IfSome l.reply (AnswersEach text.now refuting)) }
@@ -85,9 +86,18 @@ fn make_longer<R: Threads + Wait + Sync, G: Gate + Sync, D: Deadline + Sync>(
     let Solution { side, states, .. } = plain.solution;
     let below = match below {
         Some(below) => below,
-        None => refuted(rt, alloc, text, side, states, refuting, gate, deadline)?,
+        None => refuted(
+            rt,
+            alloc,
+            text,
+            side,
+            states,
+            refuting,
+            gate,
+            deadlines.sizes,
+        )?,
     };
-    let smaller = smaller_strategy(alloc, text, side, &below.ended, deadline)?;
+    let smaller = smaller_strategy(alloc, text, side, &below.ended, deadlines.all)?;
     let end = refuting_end(&below.ended);
     let logs = short_logs(below.logs, refuting);
     match smaller {

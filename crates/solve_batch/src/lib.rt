@@ -6,6 +6,7 @@
 #![tactic(auto)]
 
 mod answering;
+mod shared_time;
 mod texts;
 
 pub use answering::solve_batch;
