@@ -27,8 +27,8 @@ const VERSION: &str = "annotate 0.3.0\n";
 
 const PROGRAM: &str = "annotate";
 
-const USAGE: &str = "usage: annotate [-o FILE] SPEC CIRCUIT [SPEC CIRCUIT ..]
-or annotate --help | --version; `-` is standard input, and -o (--output) writes FILE
+const USAGE: &str = "usage: annotate SPEC CIRCUIT [SPEC CIRCUIT ..]
+or annotate --help | --version; `-` is standard input, and `-o FILE` before all words writes FILE
 ";
 
 /// A file by its name, with its bytes.
