@@ -12,7 +12,7 @@ use faults::{Fault, USAGE};
 use input_output::Sink;
 use options::{Given, WordsFault};
 use program_customs::{Asked, ProgramOutput, asked_of, is_input, take_output};
-use spec_texts::Form;
+use spec_texts::SpecText;
 use std::alloc::Global;
 use std::env;
 use std::io::ErrorKind;
@@ -77,23 +77,27 @@ fn answer(
         Task::Help => write_out(alloc, USAGE.as_bytes(), out),
         Task::Version => write_out(alloc, VERSION.as_bytes(), out),
         Task::Machine(task) => write_out(alloc, &machine_answer(rt, alloc, task)?, out),
-        Task::Text(name, form) => write_text(rt, alloc, name, form, out),
-        Task::Lint(name) => write_out(alloc, &lint_answer(rt, alloc, name)?, out),
+        Task::Text(name, form) => write_text(rt, alloc, &text_answer(rt, alloc, name, form)?, out),
+        Task::Lint(name) => write_text(rt, alloc, &lint_answer(rt, alloc, name)?, out),
     }
 }
 
+/// Writes a text, and before that what a reader should know of it.
 fn write_text(
     rt: &HostRuntime,
     alloc: Global,
-    name: &str,
-    form: Form,
+    text: &SpecText,
     out: &mut Output<'_>,
 ) -> Result<(), Fault> {
-    let text = text_answer(rt, alloc, name, form)?;
-    if let Some(note) = text.note {
+    write_note(rt, text.taken);
+    write_note(rt, text.note);
+    write_out(alloc, &text.bytes, out)
+}
+
+fn write_note(rt: &HostRuntime, note: Option<&str>) {
+    if let Some(note) = note {
         let _ = eprintln!(rt; "boundsyn-show: note: {note}");
     }
-    write_out(alloc, &text.bytes, out)
 }
 
 fn write_out(alloc: Global, bytes: &[u8], out: &mut Output<'_>) -> Result<(), Fault> {
