@@ -9,6 +9,7 @@ use crate::discoveries::{Discovery, Found};
 use crate::documents::{strategy_document, unknown_text};
 use crate::finding::{Search, find_strategy};
 use crate::refuting::Refuting;
+use crate::remarking::Original;
 use crate::shrinking::{Plain, with_logs};
 use crate::testing::tested;
 use crate::told::wanted_memory;
@@ -20,7 +21,6 @@ use outcome_news::{ConjunctEnd, Listener, News, Told, ToldReply, Unsolved, Withh
 use program_replies::{Reply, Status, refusal};
 use solve_ground::{SolveText, solve_text};
 use std::alloc::{AllocError, Global};
-use std::mem::forget;
 use std::sync::Wait;
 use std::thread::Threads;
 use time_limits::{Deadline, Stopwatch, TextDeadline};
@@ -56,37 +56,15 @@ pub fn solve<R: Threads + Wait + Sync, G: Gate + Sync, S: Stopwatch + Sync, L: L
 {
     let all = TextDeadline::begin(stopwatch, refuting.seconds);
     let sizes = TextDeadline::begin(stopwatch, seconds_for_sizes(refuting.seconds));
-    let told = answer_to(
-        rt, alloc, text, given, budget, refuting, gate, &all, &sizes, listener,
-    );
-    // They are references and numbers, so there is nothing to be let go.
-    forget(all);
-    forget(sizes);
-    told
-}
-
-/// The same until deadlines.
-fn answer_to<R: Threads + Wait + Sync, G: Gate + Sync, D: Deadline + Sync, L: Listener>(
-    rt: &R,
-    alloc: Global,
-    text: &[u8],
-    given: Option<Kind>,
-    budget: Budget,
-    refuting: Refuting,
-    gate: &G,
-    all: &D,
-    sizes: &D,
-    listener: &mut L,
-) -> Result<ToldReply, AllocError>
-    ensures { IfOk result (λ s. SolveAnswers text.now given (limits_of refuting) s.reply.bytes.items (status_number s.reply.status)) }
-{
+    let deadlines = Deadlines {
+        all: &all,
+        sizes: &sizes,
+    };
+    let original = Original { text, given };
     match solve_text(alloc, text, given) {
-        Ok(known) => {
-            let deadlines = Deadlines { all, sizes };
-            answer(
-                rt, alloc, &known, budget, refuting, gate, &deadlines, listener,
-            )
-        }
+        Ok(known) => answer(
+            rt, alloc, &known, original, budget, refuting, gate, &deadlines, listener,
+        ),
         Err(fault) => Ok(ToldReply {
             reply: refusal(alloc, fault)?,
             told: Told::Refused,
@@ -99,6 +77,7 @@ fn answer<R: Threads + Wait + Sync, G: Gate + Sync, D: Deadline + Sync, L: Liste
     rt: &R,
     alloc: Global,
     text: &SolveText,
+    original: Original<'_>,
     budget: Budget,
     refuting: Refuting,
     gate: &G,
@@ -111,7 +90,7 @@ fn answer<R: Threads + Wait + Sync, G: Gate + Sync, D: Deadline + Sync, L: Liste
     listener.hear(News::Playing);
     match find_any(rt, alloc, text, budget, refuting, gate, deadlines, listener)? {
         Found::Of(discovery) => of_strategy(
-            rt, alloc, text, discovery, refuting, gate, deadlines, listener,
+            rt, alloc, text, original, discovery, refuting, gate, deadlines, listener,
         ),
         Found::Without(why, conjuncts) => unknown(alloc, text, why, conjuncts, refuting),
     }
@@ -149,6 +128,7 @@ fn of_strategy<R: Threads + Wait + Sync, G: Gate + Sync, D: Deadline + Sync, L: 
     rt: &R,
     alloc: Global,
     text: &SolveText,
+    original: Original<'_>,
     discovery: Discovery,
     refuting: Refuting,
     gate: &G,
@@ -172,15 +152,23 @@ fn of_strategy<R: Threads + Wait + Sync, G: Gate + Sync, D: Deadline + Sync, L: 
         }
     };
     if refuting.max == Some(0) {
-        let told = Told::Found(solution);
-        return Ok(ToldReply { reply, told });
+        let circuit = document.circuit.as_ref();
+        let told = original.with_remarks(alloc, solution, circuit, deadlines.all);
+        return Ok(ToldReply {
+            reply,
+            told: Told::Found(told),
+        });
     }
     listener.hear(News::Found(solution.side, solution.states));
     let plain = Plain { solution, document };
     let longer = with_logs(rt, alloc, text, plain, below, refuting, gate, deadlines);
-    let told = Told::Found(longer.solution);
+    let circuit = longer.circuit.as_ref();
+    let told = original.with_remarks(alloc, longer.solution, circuit, deadlines.all);
     let reply = better_of(text, refuting, longer.reply, reply);
-    Ok(ToldReply { reply, told })
+    Ok(ToldReply {
+        reply,
+        told: Told::Found(told),
+    })
 }
 
 /// The better reply to a text, where there is one, or the one that there is.

@@ -14,6 +14,7 @@ mod documents;
 mod finding;
 mod reducing;
 mod refuting;
+mod remarking;
 mod shrinking;
 mod testing;
 mod told;

@@ -5,7 +5,6 @@ ghost use Rattle.batch_run.specs.Answers.{AreAnswers};
 ghost use Rattle.solve_answer.specs.Parts.{limits_of};
 ghost use Rattle.solve_batch.specs.SolvedBatch.{IsSolvedReply, SolvedBatchAnswers};
 
-use crate::shared_time::SharedTime;
 use crate::texts::Solving;
 use batch_answer::{FileName, TakenText, batch_text};
 use batch_run::run_all;
@@ -17,7 +16,7 @@ use solve_answer::Refuting;
 use std::alloc::{AllocError, Global};
 use std::sync::Wait;
 use std::thread::{self, Threads};
-use time_limits::Stopwatch;
+use time_limits::{SharedTime, Stopwatch};
 
 /// The answers to texts of these names, in their order, as `batch_answer` of batch_answer writes them: each is that of `solve` to its text
 /// alone, whose machines are of the given kind. So many workers share the texts as are to refute; each text is solved by one of them. What is

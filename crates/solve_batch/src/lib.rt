@@ -6,7 +6,6 @@
 #![tactic(auto)]
 
 mod answering;
-mod shared_time;
 mod texts;
 
 pub use answering::solve_batch;

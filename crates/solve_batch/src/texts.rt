@@ -4,7 +4,6 @@ ghost use Rattle.program_replies.specs.Statuses.{status_number};
 ghost use Rattle.solve_answer.specs.Answer.{SolveAnswers};
 ghost use Rattle.solve_answer.specs.Parts.{limits_of};
 
-use crate::shared_time::SharedTime;
 use batch_answer::{TakenText, too_long};
 use batch_run::Job;
 use input_output::OpenGate;
@@ -15,6 +14,7 @@ use std::alloc::{AllocError, Global};
 use std::marker::Model;
 use std::sync::Wait;
 use std::thread::Threads;
+use time_limits::SharedTime;
 
 /// The job of solving texts, each by the worker that takes it alone, within its own time. A contract sees the kind that is given, and how far
 /// documents may refute.

@@ -1,9 +1,9 @@
 //! A stopwatch that many threads read.
 
+use crate::stopwatches::Stopwatch;
 use std::sync::Wait;
 use std::sync::atomic::{AtomicU64, Ordering};
 use std::time::Duration;
-use time_limits::Stopwatch;
 
 /// Between two looks at the stopwatch so many milliseconds go by.
 const REST: u64 = 5;

@@ -6,7 +6,7 @@ use Rattle.solve_ground.specs.SolveText.{IsSolveFault}
 use Rattle.solve_answer.specs.Answer.{SolveAnswers}
 use Rattle.solve_answer.specs.Parts.{AnswersEach, limits_of}
 use Rattle.solve_answer.proofs.Answered.{refused_answers}
-use Rattle.solve_answer.proofs.answering.answer_to.Goals as goal
+use Rattle.solve_answer.proofs.answering.solve.Goals as goal
 
 pub returns-in-Ok : goal.returns-in-Ok
 returns-in-Ok g c = IfOk-weaker c.answer.result
