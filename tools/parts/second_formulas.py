@@ -9,8 +9,8 @@ PARTS = {"true": 0, "false": 0, **dict.fromkeys(("signal", "!", "X", "F", "G"), 
 class TextFault(Exception):
     """The text isn't taken: the line that tells it."""
 
-class WrongList(Exception):
-    """The list of formulas isn't that of its text."""
+class WrongAnswer(Exception):
+    """What boundsyn says of a text is missing, or contradicts itself."""
 
 # ---- "Signals and flat sections", "What `expand` writes", "What `expand --solve` writes" ----
 
@@ -25,14 +25,14 @@ class Formulas(list):
             node = (sign, signals[parts[0]]) if sign == "signal" else (sign, *map(int, parts))
             is_next = mark == "node" and int(place) == at and len(parts) == PARTS[sign] and node not in self.ids
             if not is_next or (sign != "signal" and any(part >= at for part in node[1:])):
-                raise WrongList(f"its line `{mark} {place} {sign}` isn't that of a new node of id {at} over nodes before it")
+                raise WrongAnswer(f"the line `{mark} {place} {sign}` isn't that of a new node of id {at} over nodes before it")
             self.ids[node] = at
             self.append(node)
 
     def find(self, *node):
         """The id of a node, which stands in the list."""
         if node not in self.ids:
-            raise WrongList(f"it lacks the node {node}")
+            raise WrongAnswer(f"the list of formulas lacks the node {node}")
         return self.ids[node]
 
     def read(self, tokens, signals):

@@ -4,7 +4,7 @@ import re
 import subprocess
 import tempfile
 
-from second_formulas import Flat, TextFault, WrongList, is_conversion
+from second_formulas import Flat, TextFault, WrongAnswer, is_conversion
 from second_problems import SolveText, Text
 
 # ---- "What `expand --solve` writes", "The order of refusals" ----
@@ -14,14 +14,19 @@ OTHER = {"Mealy": "Moore", "Moore": "Mealy"}
 def asker(program, spec):
     """A function of words behind `boundsyn` that gives what it writes of the text."""
     def ask(*words, file=spec):
-        told = subprocess.run([program, *words, "--", file], stdin=subprocess.DEVNULL, stdout=subprocess.PIPE, stderr=subprocess.DEVNULL, check=False)
+        try:
+            told = subprocess.run([program, *words, "--", file], stdin=subprocess.DEVNULL, stdout=subprocess.PIPE, stderr=subprocess.DEVNULL, check=False)
+        except OSError as found:
+            raise WrongAnswer(f"can't run {program}: {found.strerror}") from found
+        if not told.stdout.startswith((b"kind ", b"refused ", b"cannot read")):
+            raise WrongAnswer(f"{program} doesn't answer `{' '.join(words)}` of this text")
         return told.stdout.decode()
     return ask
 
 def taken_or_fault(told):
     """What `expand` writes of a text that has no fault."""
     if not told.startswith("kind "):
-        raise TextFault(told.strip() or "nothing")
+        raise TextFault(told.strip())
     return told
 
 class Given:
@@ -58,5 +63,5 @@ class Given:
         target, shifted = self.data[self.target_at:self.target_at + 5].decode(), Flat(told) if told.startswith("kind ") else None
         names = self.flat.inputs if target == "Mealy" else self.flat.outputs
         if shifted and not is_conversion(self.flat, shifted, names):
-            raise WrongList("its sections aren't those of the text, converted")
+            raise WrongAnswer("the sections of the converted text aren't those of the text, converted")
         return SolveText(self.flat, shifted, target, OTHER[target])

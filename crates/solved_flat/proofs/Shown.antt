@@ -1,25 +1,17 @@
 -- A formula in which shifted signals are shown with X is the formula as it is taken, written out.
-use Rattle.std.proofs.Common.{◌≡◌, ℕ, ◌+◌, ◌-◌, ◌<◌, ◌≤◌, Bool, true, false, not, cond, ltb, List, [], ◌∷◌, ◌++◌, length, map, flat_map, All, Option, None, Some, refl, sym, ap, ◌∙◌, subst, arith, slice_index_or, codes, length-append}
-use Rattle.std.proofs.lemmas.Bool.{le-ltb, lt-ltb, ltb-false, ltb-true}
+use Rattle.std.proofs.Common.{◌≡◌, ℕ, ◌+◌, ◌-◌, ◌<◌, ◌≤◌, Bool, true, false, not, cond, ltb, List, [], ◌∷◌, ◌++◌, length, map, Option, None, Some, refl, sym, ap, ◌∙◌, arith, slice_index_or, codes, length-append}
+use Rattle.std.proofs.lemmas.Bool.{ltb-false, ltb-true}
 use Rattle.std.proofs.lemmas.List.{get_or-append_right, get_or-map, get_or_append_left, length-map}
-use Rattle.std.proofs.lemmas.List.Elements.{All-head, All-tail}
-use Rattle.ltl_formula.specs.declared.nodes.FormulaId.{FormulaId}
-use Rattle.ltl_formula.specs.Nodes.{IsNodeIn, tree_at}
 use Rattle.ltl_formula.specs.Text.{formula_text, infix_text, prefixed}
 use Rattle.ltl_formula.specs.Tree.{SignalsBelow, Tree}
 use Rattle.ltl_formula.specs.Tree.Tree.{truth, falsity, signal, negation, next_time, finally, globally, conjunction, disjunction, implication, equivalence, until, release, weak_until}
-use Rattle.ltl_formula.proofs.ListSignals.{signals_of_lists_are_kept}
 use Rattle.kind_conversion.specs.declared.shifts.Shift.{Shift}
 use Rattle.kind_conversion.specs.declared.shifts.Shift.TheVariants.{Inputs, Outputs}
 use Rattle.kind_conversion.specs.ShiftedForm.{shifted_form}
 use Rattle.kind_conversion.specs.Shifts.{is_shifted}
 use Rattle.tlsf_expand.specs.Expansion.{Expanded}
-use Rattle.tlsf_expand.specs.FlatText.{FlatText}
-use Rattle.flat_lines.specs.declared.lines.Line.{Line}
-use Rattle.flat_lines.specs.declared.lines.Line.TheVariants as lines
-use Rattle.flat_lines.specs.FlatLines.{CanBeWritten, LineStands, all_names, ended_line, flat_bytes_by, lines_in, section_word}
-use Rattle.solved_flat.specs.Expand.{taken_bytes, taken_form, taken_line}
-use Rattle.solved_flat.specs.Shown.{shown_name, shown_names}
+use Rattle.flat_lines.specs.FlatLines.{all_names}
+use Rattle.solved_flat.specs.Shown.{ShownFormulasAreTaken, shown_name, shown_names, taken_form, takes_inputs, takes_outputs}
 
 -- ---- the name of a signal
 
@@ -108,34 +100,13 @@ unshown (name ∷ names) = ap (λ more. name ∷ more) (unshown names)
 none_shown : (x : Expanded) → shown_names None x ≡ all_names x
 none_shown x = ap (λ names. names ++ map (shown_name false) x.outputs) (unshown x.inputs) ∙ ap (λ names. x.inputs ++ names) (unshown x.outputs)
 
-taken_text : (shift : Option Shift) (x : Expanded) (f : Tree) → SignalsBelow (length x.inputs + length x.outputs) f
-    → formula_text (shown_names shift x) f ≡ formula_text (all_names x) (taken_form shift (length x.inputs) f)
-taken_text None x f below = ap (λ names. formula_text names f) (none_shown x)
-taken_text (Some shift) x f below = text_shown shift x f below
+pub shown_formulas_are_taken : ShownFormulasAreTaken
+shown_formulas_are_taken None x f below = ap (λ names. formula_text names f) (none_shown x)
+shown_formulas_are_taken (Some shift) x f below = text_shown shift x f below
 
--- ---- the lines
-
-same_pieces : {X : Type 0} (P : X → Type 0) (f g : X → List ℕ) → ((x : X) → P x → f x ≡ g x) → (xs : List X) → All P xs → flat_map f xs ≡ flat_map g xs
-same_pieces P f g same [] h = refl
-same_pieces P f g same (x ∷ xs) h =
-    ap (λ first. first ++ flat_map f xs) (same x (All-head P x xs h)) ∙ ap (λ rest. g x ++ rest) (same_pieces P f g same xs (All-tail P x xs h))
-
-module _ (shift : Option Shift) (flat : FlatText) (can : CanBeWritten flat) where
-  abbrev here : List (List ℕ)
-  here = shown_names shift flat.expanded
-
-  signals : (id : FormulaId) → IsNodeIn flat.formulas id → SignalsBelow (length flat.expanded.inputs + length flat.expanded.outputs) (tree_at flat.formulas id)
-  signals id stands =
-      subst (λ n. SignalsBelow n (tree_at flat.formulas id)) (length-append flat.expanded.inputs flat.expanded.outputs)
-      (signals_of_lists_are_kept.of_formulas (length (all_names flat.expanded)) flat.formulas id can.list can.named stands)
-
-  line_taken : (line : Line) → LineStands flat.formulas line → ended_line here flat line ≡ taken_line shift flat line ++ 10 ∷ []
-  line_taken lines.Kinds stands = refl
-  line_taken lines.Inputs stands = refl
-  line_taken lines.Outputs stands = refl
-  line_taken (lines.Formula section id) stands =
-      ap (λ t. section_word section ++ 32 ∷ t ++ 10 ∷ []) (taken_text shift flat.expanded (tree_at flat.formulas id) (signals id stands))
-
-  -- what is written with the shown names is the flat text as it is taken
-  pub bytes_taken : flat_bytes_by here flat ≡ taken_bytes shift flat
-  bytes_taken = same_pieces (LineStands flat.formulas) (ended_line here flat) (λ line. taken_line shift flat line ++ 10 ∷ []) line_taken (lines_in flat.expanded) can.stand
+-- there are as many of them as of names
+pub shown_many : (shift : Option Shift) (x : Expanded) → length (shown_names shift x) ≡ length (all_names x)
+shown_many shift x =
+    let inputs : List (List ℕ) = map (shown_name (takes_inputs shift)) x.inputs in
+    let outputs : List (List ℕ) = map (shown_name (takes_outputs shift)) x.outputs in
+    omega (arith, length-append inputs outputs, length-append x.inputs x.outputs, length-map x.inputs (shown_name (takes_inputs shift)), length-map x.outputs (shown_name (takes_outputs shift)))
