@@ -22,7 +22,7 @@ def help_is_an_answer(it):
         for words in (("-h",), ("help",), (*behind, "--help"), (*behind, "-h"), ("-h", *behind)):
             assert it.run(name, *words) == (0, page, ""), words
         assert it.run(name, *behind, "--version") == it.run(name, "--version")
-        assert it.run(name, *behind, "--", "--help")[0] == WORDS_REFUSED
+        assert it.run(name, *behind, "--", "--help")[0] in (WORDS_REFUSED, CANNOT_READ)
         assert it.run(name, "-o", "page", "--help") == (0, "", "") and it.read("page") == page
 
 

@@ -133,7 +133,12 @@ fn can_be_given(command: &[&str]) -> bool {
     command
         .iter()
         .skip(1)
-        .all(|word| word.bytes().all(|byte| byte != b'\'' && (byte == b' ' || byte.is_ascii_graphic())))
+        .all(|word| can_be_quoted(word))
+}
+
+fn can_be_quoted(word: &str) -> bool {
+    word.bytes()
+        .all(|byte| byte != b'\'' && (byte == b' ' || byte.is_ascii_graphic()))
 }
 
 /// Whether a shell takes a word as it is.
