@@ -191,11 +191,7 @@ fn refusal(
 }
 
 /// Refuses words, for a reason that is told.
-fn refused(
-    rt: &HostRuntime,
-    out: &mut Output<'_>,
-    reason: Result<String, AllocError>,
-) -> Status {
+fn refused(rt: &HostRuntime, out: &mut Output<'_>, reason: Result<String, AllocError>) -> Status {
     let _ = out.put(b"words refused\n");
     tell(rt, reason);
     Status::WordsRefused
@@ -253,7 +249,11 @@ fn answer_words(
         None => {}
     }
     if let Some(word) = left_output(words) {
-        let reason = wrong_word(alloc, word, "` has no file behind it, or stands there twice\n");
+        let reason = wrong_word(
+            alloc,
+            word,
+            "` has no file behind it, or stands there twice\n",
+        );
         return Ok(refused(rt, out, reason));
     }
     let names = words.get(1..).unwrap_or(&[]);

@@ -6,3 +6,4 @@ mod SolveLemmas
 mod RefusalLemmas
 mod RunLemmas
 mod PrintedLemmas
+mod VerifiedLemmas

@@ -9,3 +9,4 @@ pub mod Takes
 pub mod Unread
 pub mod Run
 pub mod Printed
+pub mod Verified

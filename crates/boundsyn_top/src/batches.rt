@@ -24,8 +24,8 @@ use solve_batch::solve_batch;
 use std::alloc::{AllocError, Global};
 use std::sync::Wait;
 use std::thread::Threads;
-use time_limits::Stopwatch;
 use synth_engine::Settings;
+use time_limits::Stopwatch;
 
 /// What is done with each text of a list.
 #[derive(Clone, Copy)]
@@ -59,7 +59,9 @@ where
     ensures other_files { (name : List ℕ) → ¬ TakesFile (H.files shelf.old) (batch list.now (wished wanted)) name → H.faults shelf.new name ≡ H.faults shelf.old name }
 {
     match take_whole(alloc, shelf, list)? {
-        Some(lines) => whole_output(answer_lines(rt, alloc, shelf, &lines, wanted, gate, stopwatch, listener)),
+        Some(lines) => whole_output(answer_lines(
+            rt, alloc, shelf, &lines, wanted, gate, stopwatch, listener,
+        )),
         None => whole_output(cannot_read(alloc)),
     }
 }

@@ -37,9 +37,7 @@ pub(crate) fn verify_circuit<H: Shelf>(
     ensures other_files { (name : List ℕ) → ¬ TakesFile (H.files shelf.old) (verify side kind spec.now circuit.now) name → H.faults shelf.new name ≡ H.faults shelf.old name }
 {
     match take_text(alloc, shelf, spec)? {
-        Taken::Whole(text) => whole_output(verify_by(
-            alloc, shelf, side, &text, kind, circuit,
-        )),
+        Taken::Whole(text) => whole_output(verify_by(alloc, shelf, side, &text, kind, circuit)),
         Taken::Refused(reply) => Ok(Output::Whole(reply)),
     }
 }
@@ -60,9 +58,7 @@ fn verify_by<H: Shelf>(
 {
     let found = text_for_verify(alloc, side, text, kind)?;
     match found {
-        TextForVerify::Taken(known) => verified(
-            alloc, shelf, side, text, kind, &known, circuit,
-        ),
+        TextForVerify::Taken(known) => verified(alloc, shelf, side, text, kind, &known, circuit),
         TextForVerify::Refused(reply) => Ok(reply),
     }
 }
@@ -107,11 +103,7 @@ fn unread_circuit(
 }
 
 /// The same where it was to play the system.
-fn unread_system(
-    alloc: Global,
-    text: &[u8],
-    kind: Option<Kind>,
-) -> Result<Reply, AllocError>
+fn unread_system(alloc: Global, text: &[u8], kind: Option<Kind>) -> Result<Reply, AllocError>
     ensures { IfOk result (λ r. TellsUnread (IsSynthFault System text.now kind) r.bytes.items (status_number r.status)) }
 {
     problems_of_texts_are_determined();

@@ -157,7 +157,9 @@ where
                 workers,
                 seconds,
             };
-            solve_spec(rt, alloc, shelf, spec, kind, refuting, gate, stopwatch, listener)
+            solve_spec(
+                rt, alloc, shelf, spec, kind, refuting, gate, stopwatch, listener,
+            )
         },
     }
 }

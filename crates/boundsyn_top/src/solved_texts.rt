@@ -49,10 +49,7 @@ fn solved_output(
     ensures { IfOk result (IsSolveExpansion text.now kind nodes) }
 {
     match taken_text(alloc, text, kind)? {
-        Taking::Taken(taken) => Ok(Output::Solved {
-            text: taken,
-            nodes,
-        }),
+        Taking::Taken(taken) => Ok(Output::Solved { text: taken, nodes }),
         Taking::Refused(reply) => Ok(Output::Whole(reply)),
     }
 }

@@ -68,7 +68,17 @@ where
     L: Listener,
     ensures { IfOk result (λ r. SolveAnswers text.now kind (limits_of refuting) r.bytes.items (status_number r.status)) }
 {
-    let solved = solve(rt, alloc, text, kind, GAME_BUDGET, refuting, gate, stopwatch, listener)?;
+    let solved = solve(
+        rt,
+        alloc,
+        text,
+        kind,
+        GAME_BUDGET,
+        refuting,
+        gate,
+        stopwatch,
+        listener,
+    )?;
     listener.hear(News::Answered(solved.told));
     Ok(solved.reply)
 }

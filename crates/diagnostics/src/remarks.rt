@@ -33,11 +33,7 @@ fn push_owed(owed: Owed, out: &mut String) -> Result<(), AllocError> {
 }
 
 /// Appends which outputs are always true, and which always false.
-fn push_constant(
-    remarks: Remarks,
-    outputs: &[String],
-    out: &mut String,
-) -> Result<(), AllocError> {
+fn push_constant(remarks: Remarks, outputs: &[String], out: &mut String) -> Result<(), AllocError> {
     let always_true = Signals::new(remarks.always_true, outputs);
     let always_false = Signals::new(remarks.always_false, outputs);
     match (always_true.first(), always_false.first()) {

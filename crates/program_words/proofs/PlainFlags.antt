@@ -118,7 +118,7 @@ expand_solve_read program spec spec_plain =
     let end = options_end s kinds expand_steps (set (codes "solve") ∷ []) (item (codes "spec") spec) 2 ([]) refl expand_spec_settles tt in
     let at_spec = after_name s (at (rows_of_items (set (codes "solve") ∷ [])) None idle 1) (after (set (codes "solve") ∷ []) (item (codes "spec") spec) 2) spec ([]) items 2
     (plain_walked s.rules (rows_of_items (set (codes "solve") ∷ [])) None idle open_idle 1 spec spec_plain) (plain_turn_fault s (rows_of_items (set (codes "solve") ∷ [])) None idle open_idle 1 spec spec_plain) end in
-    let at_solve = after_name s (walk_from nothing_held) (at (rows_of_items (set (codes "solve") ∷ [])) None idle 1) codes "--solve" (spec ∷ []) items 2 refl refl at_spec in
+    let at_solve = after_name s (walk_from nothing_held) (at (rows_of_items (set (codes "solve") ∷ [])) None idle 1) (codes "--solve") (spec ∷ []) items 2 refl refl at_spec in
     read_rows program (codes "expand") s (codes "--solve" ∷ spec ∷ []) rows expand_met refl refl (rows_read s (codes "--solve" ∷ spec ∷ []) items 2 rows at_solve refl refl refl)
 
 pub expand_kind_read : (program spec kind : Text) → IsTrue (is_plain spec) → IsTrue (is_plain kind) →
@@ -128,10 +128,10 @@ expand_kind_read program spec kind spec_plain kind_plain =
     let s = leaf line.expand in
     let items = set (codes "solve") ∷ item (codes "spec") spec ∷ item (codes "kind") kind ∷ [] in
     let rows = rows_of_items (set (codes "solve") ∷ item (codes "spec") spec ∷ item (codes "kind") kind ∷ []) ++ unset (codes "nodes") ∷ [] in
-    let end = options_end s kinds expand_steps (set (codes "solve") ∷ []) (item (codes "spec") spec) 2 (item (codes "kind") kind ∷ []) refl expand_spec_settles (inl refl, (kind_plain, (refl, tt))) in
+    let end = options_end s kinds expand_steps (set (codes "solve") ∷ []) (item (codes "spec") spec) 2 (item (codes "kind") kind ∷ []) refl expand_spec_settles (inl refl, kind_plain, refl, tt) in
     let at_spec = after_name s (at (rows_of_items (set (codes "solve") ∷ [])) None idle 1) (after (set (codes "solve") ∷ []) (item (codes "spec") spec) 2) spec (codes "--kind" ∷ kind ∷ []) items 2
     (plain_walked s.rules (rows_of_items (set (codes "solve") ∷ [])) None idle open_idle 1 spec spec_plain) (plain_turn_fault s (rows_of_items (set (codes "solve") ∷ [])) None idle open_idle 1 spec spec_plain) end in
-    let at_solve = after_name s (walk_from nothing_held) (at (rows_of_items (set (codes "solve") ∷ [])) None idle 1) codes "--solve" (spec ∷ codes "--kind" ∷ kind ∷ []) items 2 refl refl at_spec in
+    let at_solve = after_name s (walk_from nothing_held) (at (rows_of_items (set (codes "solve") ∷ [])) None idle 1) (codes "--solve") (spec ∷ codes "--kind" ∷ kind ∷ []) items 2 refl refl at_spec in
     read_rows program (codes "expand") s (codes "--solve" ∷ spec ∷ codes "--kind" ∷ kind ∷ []) rows expand_met refl refl (rows_read s (codes "--solve" ∷ spec ∷ codes "--kind" ∷ kind ∷ []) items 2 rows at_solve refl refl refl)
 
 pub expand_nodes_read : (program spec : Text) → IsTrue (is_plain spec) →
@@ -144,8 +144,8 @@ expand_nodes_read program spec spec_plain =
     let end = options_end s kinds expand_steps (set (codes "solve") ∷ set (codes "nodes") ∷ []) (item (codes "spec") spec) 2 ([]) refl expand_spec_settles tt in
     let at_spec = after_name s (at (rows_of_items (set (codes "solve") ∷ set (codes "nodes") ∷ [])) None idle 1) (after (set (codes "solve") ∷ set (codes "nodes") ∷ []) (item (codes "spec") spec) 2) spec ([]) items 2
     (plain_walked s.rules (rows_of_items (set (codes "solve") ∷ set (codes "nodes") ∷ [])) None idle open_idle 1 spec spec_plain) (plain_turn_fault s (rows_of_items (set (codes "solve") ∷ set (codes "nodes") ∷ [])) None idle open_idle 1 spec spec_plain) end in
-    let at_nodes = after_name s (at (rows_of_items (set (codes "solve") ∷ [])) None idle 1) (at (rows_of_items (set (codes "solve") ∷ set (codes "nodes") ∷ [])) None idle 1) codes "--nodes" (spec ∷ []) items 2 refl refl at_spec in
-    let at_solve = after_name s (walk_from nothing_held) (at (rows_of_items (set (codes "solve") ∷ [])) None idle 1) codes "--solve" (codes "--nodes" ∷ spec ∷ []) items 2 refl refl at_nodes in
+    let at_nodes = after_name s (at (rows_of_items (set (codes "solve") ∷ [])) None idle 1) (at (rows_of_items (set (codes "solve") ∷ set (codes "nodes") ∷ [])) None idle 1) (codes "--nodes") (spec ∷ []) items 2 refl refl at_spec in
+    let at_solve = after_name s (walk_from nothing_held) (at (rows_of_items (set (codes "solve") ∷ [])) None idle 1) (codes "--solve") (codes "--nodes" ∷ spec ∷ []) items 2 refl refl at_nodes in
     read_rows program (codes "expand") s (codes "--solve" ∷ codes "--nodes" ∷ spec ∷ []) rows expand_met refl refl (rows_read s (codes "--solve" ∷ codes "--nodes" ∷ spec ∷ []) items 2 rows at_solve refl refl refl)
 
 pub expand_kind_nodes_read : (program spec kind : Text) → IsTrue (is_plain spec) → IsTrue (is_plain kind) →
@@ -155,11 +155,11 @@ expand_kind_nodes_read program spec kind spec_plain kind_plain =
     let s = leaf line.expand in
     let items = set (codes "solve") ∷ set (codes "nodes") ∷ item (codes "spec") spec ∷ item (codes "kind") kind ∷ [] in
     let rows = rows_of_items (set (codes "solve") ∷ set (codes "nodes") ∷ item (codes "spec") spec ∷ item (codes "kind") kind ∷ []) in
-    let end = options_end s kinds expand_steps (set (codes "solve") ∷ set (codes "nodes") ∷ []) (item (codes "spec") spec) 2 (item (codes "kind") kind ∷ []) refl expand_spec_settles (inl refl, (kind_plain, (refl, tt))) in
+    let end = options_end s kinds expand_steps (set (codes "solve") ∷ set (codes "nodes") ∷ []) (item (codes "spec") spec) 2 (item (codes "kind") kind ∷ []) refl expand_spec_settles (inl refl, kind_plain, refl, tt) in
     let at_spec = after_name s (at (rows_of_items (set (codes "solve") ∷ set (codes "nodes") ∷ [])) None idle 1) (after (set (codes "solve") ∷ set (codes "nodes") ∷ []) (item (codes "spec") spec) 2) spec (codes "--kind" ∷ kind ∷ []) items 2
     (plain_walked s.rules (rows_of_items (set (codes "solve") ∷ set (codes "nodes") ∷ [])) None idle open_idle 1 spec spec_plain) (plain_turn_fault s (rows_of_items (set (codes "solve") ∷ set (codes "nodes") ∷ [])) None idle open_idle 1 spec spec_plain) end in
-    let at_nodes = after_name s (at (rows_of_items (set (codes "solve") ∷ [])) None idle 1) (at (rows_of_items (set (codes "solve") ∷ set (codes "nodes") ∷ [])) None idle 1) codes "--nodes" (spec ∷ codes "--kind" ∷ kind ∷ []) items 2 refl refl at_spec in
-    let at_solve = after_name s (walk_from nothing_held) (at (rows_of_items (set (codes "solve") ∷ [])) None idle 1) codes "--solve" (codes "--nodes" ∷ spec ∷ codes "--kind" ∷ kind ∷ []) items 2 refl refl at_nodes in
+    let at_nodes = after_name s (at (rows_of_items (set (codes "solve") ∷ [])) None idle 1) (at (rows_of_items (set (codes "solve") ∷ set (codes "nodes") ∷ [])) None idle 1) (codes "--nodes") (spec ∷ codes "--kind" ∷ kind ∷ []) items 2 refl refl at_spec in
+    let at_solve = after_name s (walk_from nothing_held) (at (rows_of_items (set (codes "solve") ∷ [])) None idle 1) (codes "--solve") (codes "--nodes" ∷ spec ∷ codes "--kind" ∷ kind ∷ []) items 2 refl refl at_nodes in
     read_rows program (codes "expand") s (codes "--solve" ∷ codes "--nodes" ∷ spec ∷ codes "--kind" ∷ kind ∷ []) rows expand_met refl refl (rows_read s (codes "--solve" ∷ codes "--nodes" ∷ spec ∷ codes "--kind" ∷ kind ∷ []) items 2 rows at_solve refl refl refl)
 
 pub lasso_read : (program spec word : Text) → IsTrue (is_plain spec) → IsTrue (is_plain word) →
@@ -188,7 +188,7 @@ lasso_solve_read program spec word spec_plain word_plain =
     (plain_walked s.rules (rows_of_items (set (codes "solve") ∷ [])) (Some (codes "spec", spec ∷ [])) idle open_idle 2 word word_plain) (plain_turn_fault s (rows_of_items (set (codes "solve") ∷ [])) (Some (codes "spec", spec ∷ [])) idle open_idle 2 word word_plain) end in
     let at_spec = after_name s (at (rows_of_items (set (codes "solve") ∷ [])) None idle 1) (after (set (codes "solve") ∷ []) (item (codes "spec") spec) 2) spec (word ∷ []) items 3
     (plain_walked s.rules (rows_of_items (set (codes "solve") ∷ [])) None idle open_idle 1 spec spec_plain) (plain_turn_fault s (rows_of_items (set (codes "solve") ∷ [])) None idle open_idle 1 spec spec_plain) at_word in
-    let at_solve = after_name s (walk_from nothing_held) (at (rows_of_items (set (codes "solve") ∷ [])) None idle 1) codes "--solve" (spec ∷ word ∷ []) items 3 refl refl at_spec in
+    let at_solve = after_name s (walk_from nothing_held) (at (rows_of_items (set (codes "solve") ∷ [])) None idle 1) (codes "--solve") (spec ∷ word ∷ []) items 3 refl refl at_spec in
     read_rows program (codes "lasso") s (codes "--solve" ∷ spec ∷ word ∷ []) rows lasso_met refl refl (rows_read s (codes "--solve" ∷ spec ∷ word ∷ []) items 3 rows at_solve refl refl refl)
 
 pub lasso_kind_read : (program spec word kind : Text) → IsTrue (is_plain spec) → IsTrue (is_plain word) → IsTrue (is_plain kind) →
@@ -198,12 +198,12 @@ lasso_kind_read program spec word kind spec_plain word_plain kind_plain =
     let s = leaf line.lasso in
     let items = set (codes "solve") ∷ item (codes "spec") spec ∷ item (codes "word") word ∷ item (codes "kind") kind ∷ [] in
     let rows = rows_of_items (set (codes "solve") ∷ item (codes "spec") spec ∷ item (codes "word") word ∷ item (codes "kind") kind ∷ []) in
-    let end = options_end s kinds lasso_steps (set (codes "solve") ∷ item (codes "spec") spec ∷ []) (item (codes "word") word) 3 (item (codes "kind") kind ∷ []) refl lasso_word_settles (inl refl, (kind_plain, (refl, tt))) in
+    let end = options_end s kinds lasso_steps (set (codes "solve") ∷ item (codes "spec") spec ∷ []) (item (codes "word") word) 3 (item (codes "kind") kind ∷ []) refl lasso_word_settles (inl refl, kind_plain, refl, tt) in
     let at_word = after_name s (after (set (codes "solve") ∷ []) (item (codes "spec") spec) 2) (after (set (codes "solve") ∷ item (codes "spec") spec ∷ []) (item (codes "word") word) 3) word (codes "--kind" ∷ kind ∷ []) items 3
     (plain_walked s.rules (rows_of_items (set (codes "solve") ∷ [])) (Some (codes "spec", spec ∷ [])) idle open_idle 2 word word_plain) (plain_turn_fault s (rows_of_items (set (codes "solve") ∷ [])) (Some (codes "spec", spec ∷ [])) idle open_idle 2 word word_plain) end in
     let at_spec = after_name s (at (rows_of_items (set (codes "solve") ∷ [])) None idle 1) (after (set (codes "solve") ∷ []) (item (codes "spec") spec) 2) spec (word ∷ codes "--kind" ∷ kind ∷ []) items 3
     (plain_walked s.rules (rows_of_items (set (codes "solve") ∷ [])) None idle open_idle 1 spec spec_plain) (plain_turn_fault s (rows_of_items (set (codes "solve") ∷ [])) None idle open_idle 1 spec spec_plain) at_word in
-    let at_solve = after_name s (walk_from nothing_held) (at (rows_of_items (set (codes "solve") ∷ [])) None idle 1) codes "--solve" (spec ∷ word ∷ codes "--kind" ∷ kind ∷ []) items 3 refl refl at_spec in
+    let at_solve = after_name s (walk_from nothing_held) (at (rows_of_items (set (codes "solve") ∷ [])) None idle 1) (codes "--solve") (spec ∷ word ∷ codes "--kind" ∷ kind ∷ []) items 3 refl refl at_spec in
     read_rows program (codes "lasso") s (codes "--solve" ∷ spec ∷ word ∷ codes "--kind" ∷ kind ∷ []) rows lasso_met refl refl (rows_read s (codes "--solve" ∷ spec ∷ word ∷ codes "--kind" ∷ kind ∷ []) items 3 rows at_solve refl refl refl)
 
 pub verify_read : (program spec circuit : Text) → IsTrue (is_plain spec) → IsTrue (is_plain circuit) →
@@ -227,7 +227,7 @@ verify_kind_read program spec circuit kind spec_plain circuit_plain kind_plain =
     let s = leaf line.verify in
     let items = item (codes "spec") spec ∷ item (codes "circuit") circuit ∷ item (codes "kind") kind ∷ [] in
     let rows = rows_of_items (item (codes "spec") spec ∷ item (codes "circuit") circuit ∷ item (codes "kind") kind ∷ []) ++ unset (codes "unrealizable") ∷ [] in
-    let end = options_end s kinds verify_steps (item (codes "spec") spec ∷ []) (item (codes "circuit") circuit) 3 (item (codes "kind") kind ∷ []) refl verify_circuit_settles (inl refl, (kind_plain, (refl, tt))) in
+    let end = options_end s kinds verify_steps (item (codes "spec") spec ∷ []) (item (codes "circuit") circuit) 3 (item (codes "kind") kind ∷ []) refl verify_circuit_settles (inl refl, kind_plain, refl, tt) in
     let at_circuit = after_name s (after ([]) (item (codes "spec") spec) 2) (after (item (codes "spec") spec ∷ []) (item (codes "circuit") circuit) 3) circuit (codes "--kind" ∷ kind ∷ []) items 3
     (plain_walked s.rules [] (Some (codes "spec", spec ∷ [])) idle open_idle 2 circuit circuit_plain) (plain_turn_fault s [] (Some (codes "spec", spec ∷ [])) idle open_idle 2 circuit circuit_plain) end in
     let at_spec = after_name s (walk_from nothing_held) (after ([]) (item (codes "spec") spec) 2) spec (circuit ∷ codes "--kind" ∷ kind ∷ []) items 3
@@ -246,7 +246,7 @@ environment_read program spec circuit spec_plain circuit_plain =
     (plain_walked s.rules (rows_of_items (set (codes "unrealizable") ∷ [])) (Some (codes "spec", spec ∷ [])) idle open_idle 2 circuit circuit_plain) (plain_turn_fault s (rows_of_items (set (codes "unrealizable") ∷ [])) (Some (codes "spec", spec ∷ [])) idle open_idle 2 circuit circuit_plain) end in
     let at_spec = after_name s (at (rows_of_items (set (codes "unrealizable") ∷ [])) None idle 1) (after (set (codes "unrealizable") ∷ []) (item (codes "spec") spec) 2) spec (circuit ∷ []) items 3
     (plain_walked s.rules (rows_of_items (set (codes "unrealizable") ∷ [])) None idle open_idle 1 spec spec_plain) (plain_turn_fault s (rows_of_items (set (codes "unrealizable") ∷ [])) None idle open_idle 1 spec spec_plain) at_circuit in
-    let at_unrealizable = after_name s (walk_from nothing_held) (at (rows_of_items (set (codes "unrealizable") ∷ [])) None idle 1) codes "--unrealizable" (spec ∷ circuit ∷ []) items 3 refl refl at_spec in
+    let at_unrealizable = after_name s (walk_from nothing_held) (at (rows_of_items (set (codes "unrealizable") ∷ [])) None idle 1) (codes "--unrealizable") (spec ∷ circuit ∷ []) items 3 refl refl at_spec in
     read_rows program (codes "verify") s (codes "--unrealizable" ∷ spec ∷ circuit ∷ []) rows verify_met refl refl (rows_read s (codes "--unrealizable" ∷ spec ∷ circuit ∷ []) items 3 rows at_unrealizable refl refl refl)
 
 pub environment_kind_read : (program spec circuit kind : Text) → IsTrue (is_plain spec) → IsTrue (is_plain circuit) → IsTrue (is_plain kind) →
@@ -256,10 +256,10 @@ environment_kind_read program spec circuit kind spec_plain circuit_plain kind_pl
     let s = leaf line.verify in
     let items = set (codes "unrealizable") ∷ item (codes "spec") spec ∷ item (codes "circuit") circuit ∷ item (codes "kind") kind ∷ [] in
     let rows = rows_of_items (set (codes "unrealizable") ∷ item (codes "spec") spec ∷ item (codes "circuit") circuit ∷ item (codes "kind") kind ∷ []) in
-    let end = options_end s kinds verify_steps (set (codes "unrealizable") ∷ item (codes "spec") spec ∷ []) (item (codes "circuit") circuit) 3 (item (codes "kind") kind ∷ []) refl verify_circuit_settles (inl refl, (kind_plain, (refl, tt))) in
+    let end = options_end s kinds verify_steps (set (codes "unrealizable") ∷ item (codes "spec") spec ∷ []) (item (codes "circuit") circuit) 3 (item (codes "kind") kind ∷ []) refl verify_circuit_settles (inl refl, kind_plain, refl, tt) in
     let at_circuit = after_name s (after (set (codes "unrealizable") ∷ []) (item (codes "spec") spec) 2) (after (set (codes "unrealizable") ∷ item (codes "spec") spec ∷ []) (item (codes "circuit") circuit) 3) circuit (codes "--kind" ∷ kind ∷ []) items 3
     (plain_walked s.rules (rows_of_items (set (codes "unrealizable") ∷ [])) (Some (codes "spec", spec ∷ [])) idle open_idle 2 circuit circuit_plain) (plain_turn_fault s (rows_of_items (set (codes "unrealizable") ∷ [])) (Some (codes "spec", spec ∷ [])) idle open_idle 2 circuit circuit_plain) end in
     let at_spec = after_name s (at (rows_of_items (set (codes "unrealizable") ∷ [])) None idle 1) (after (set (codes "unrealizable") ∷ []) (item (codes "spec") spec) 2) spec (circuit ∷ codes "--kind" ∷ kind ∷ []) items 3
     (plain_walked s.rules (rows_of_items (set (codes "unrealizable") ∷ [])) None idle open_idle 1 spec spec_plain) (plain_turn_fault s (rows_of_items (set (codes "unrealizable") ∷ [])) None idle open_idle 1 spec spec_plain) at_circuit in
-    let at_unrealizable = after_name s (walk_from nothing_held) (at (rows_of_items (set (codes "unrealizable") ∷ [])) None idle 1) codes "--unrealizable" (spec ∷ circuit ∷ codes "--kind" ∷ kind ∷ []) items 3 refl refl at_spec in
+    let at_unrealizable = after_name s (walk_from nothing_held) (at (rows_of_items (set (codes "unrealizable") ∷ [])) None idle 1) (codes "--unrealizable") (spec ∷ circuit ∷ codes "--kind" ∷ kind ∷ []) items 3 refl refl at_spec in
     read_rows program (codes "verify") s (codes "--unrealizable" ∷ spec ∷ circuit ∷ codes "--kind" ∷ kind ∷ []) rows verify_met refl refl (rows_read s (codes "--unrealizable" ∷ spec ∷ circuit ∷ codes "--kind" ∷ kind ∷ []) items 3 rows at_unrealizable refl refl refl)

@@ -1,0 +1,4 @@
+pub mod Skipping
+pub mod Headers
+pub mod Moving
+pub mod Verified
