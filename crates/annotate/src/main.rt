@@ -12,7 +12,7 @@ use annotation::{Outcome, annotate};
 use diagnostics::{Heard, KeptFiles, Seen, message};
 use input_output::{FileShelf, Shelf, ShelfFault, Sink};
 use program_customs::{
-    Asked, ProgramOutput, asked_of, file_of, is_input, take_output, twice_message,
+    Asked, ProgramOutput, asked_of, file_of, is_input, left_output, take_output, twice_message,
     unwritten_message,
 };
 use program_replies::{Reply, Status};
@@ -191,11 +191,7 @@ fn refusal(
 }
 
 /// Refuses words, for a reason that is told.
-fn refused(
-    rt: &HostRuntime,
-    out: &mut Output<'_>,
-    reason: Result<String, AllocError>,
-) -> Status {
+fn refused(rt: &HostRuntime, out: &mut Output<'_>, reason: Result<String, AllocError>) -> Status {
     let _ = out.put(b"words refused\n");
     tell(rt, reason);
     Status::WordsRefused
@@ -252,10 +248,18 @@ fn answer_words(
         }
         None => {}
     }
+    if let Some(word) = left_output(words) {
+        let reason = wrong_word(
+            alloc,
+            word,
+            "` has no file behind it, or stands there twice\n",
+        );
+        return Ok(refused(rt, out, reason));
+    }
     let names = words.get(1..).unwrap_or(&[]);
     let inputs = names.iter().filter(|name| is_input(name.as_str())).count();
     match words.get(1).map(|word| word.as_str()) {
-        Some(word) if word.starts_with("--") || word == "-o" => {
+        Some(word) if word.starts_with("--") => {
             let reason = wrong_word(alloc, word, "` is no word of annotate\n");
             Ok(refused(rt, out, reason))
         }

@@ -31,7 +31,9 @@ impl<'a, R: Clock> Stopwatch for ClockStopwatch<'a, R> {
         match self.gone() {
             Some(Ok(gone)) => {
                 let thousandths = u64::from(gone.subsec_millis());
-                gone.as_secs().saturating_mul(1000).saturating_add(thousandths)
+                gone.as_secs()
+                    .saturating_mul(1000)
+                    .saturating_add(thousandths)
             },
             _ => 0,
         }

@@ -242,7 +242,11 @@ where
         },
         None => {},
     }
-    let inputs = words.iter().skip(2).filter(|word| is_input(word.as_str())).count();
+    let inputs = words
+        .iter()
+        .skip(2)
+        .filter(|word| is_input(word.as_str()))
+        .count();
     if inputs > 1 {
         if !own.quiet {
             tell(rt, &twice_message(alloc, PROGRAM)?);

@@ -11,7 +11,7 @@ use answers::{lint_answer, machine_answer, text_answer};
 use faults::{Fault, USAGE};
 use input_output::Sink;
 use options::{Given, WordsFault};
-use program_customs::{Asked, ProgramOutput, asked_of, is_input, take_output};
+use program_customs::{Asked, ProgramOutput, asked_of, is_input, left_output, take_output};
 use spec_texts::SpecText;
 use std::alloc::Global;
 use std::env;
@@ -34,6 +34,9 @@ fn words_of(rt: &HostRuntime, alloc: Global) -> Result<Vec<String>, Fault> {
 }
 
 fn task<'a>(alloc: Global, words: &'a [String]) -> Result<Task<'a>, WordsFault<'a>> {
+    if let Some(word) = left_output(words) {
+        return Err(WordsFault::Bad(word, "has no file behind it, or stands there twice"));
+    }
     match task_of(&Given::read(alloc, words)?)? {
         Task::Machine(task) if is_input_twice(task) => Err(WordsFault::Bad(
             "-",

@@ -130,10 +130,11 @@ fn push_quoted(word: &str, out: &mut String) -> Result<(), AllocError> {
 
 /// Whether a shell can be given the words behind the program's name, in quotes where that is needed.
 fn can_be_given(command: &[&str]) -> bool {
-    command
-        .iter()
-        .skip(1)
-        .all(|word| word.bytes().all(|byte| byte != b'\'' && (byte == b' ' || byte.is_ascii_graphic())))
+    command.iter().skip(1).all(|word| can_be_quoted(word))
+}
+
+fn can_be_quoted(word: &str) -> bool {
+    word.bytes().all(|byte| byte != b'\'' && (byte == b' ' || byte.is_ascii_graphic()))
 }
 
 /// Whether a shell takes a word as it is.

@@ -21,7 +21,7 @@ fn push_owed(owed: Owed, out: &mut String) -> Result<(), AllocError> {
         return Ok(());
     };
     out.push_str(
-        "  no run of this controller meets the assumptions, so of its guarantees it owes nothing",
+        "  No run of this controller meets the assumptions, so of its guarantees it owes nothing",
     )?;
     out.push_str(match (preset, assert) {
         (false, false) => "",
@@ -33,33 +33,28 @@ fn push_owed(owed: Owed, out: &mut String) -> Result<(), AllocError> {
 }
 
 /// Appends which outputs are always true, and which always false.
-fn push_constant(
-    remarks: Remarks,
-    outputs: &[String],
-    out: &mut String,
-) -> Result<(), AllocError> {
+fn push_constant(remarks: Remarks, outputs: &[String], out: &mut String) -> Result<(), AllocError> {
     let always_true = Signals::new(remarks.always_true, outputs);
     let always_false = Signals::new(remarks.always_false, outputs);
     match (always_true.first(), always_false.first()) {
         (None, None) => Ok(()),
         (Some(name), None) => {
-            always_true.push_sentence("output", "always true", out)?;
+            always_true.push_clause("  Output", "always true", out)?;
             writeln!(
                 out,
                 "; where that isn't meant, a guarantee has to ask for more, as `G F !{name}`"
             )
         },
         (None, Some(name)) => {
-            always_false.push_sentence("output", "always false", out)?;
+            always_false.push_clause("  Output", "always false", out)?;
             writeln!(
                 out,
                 "; where that isn't meant, a guarantee has to ask for more, as `G F {name}`"
             )
         },
         (Some(_), Some(name)) => {
-            always_true.push_sentence("output", "always true", out)?;
-            out.push_str(", and")?;
-            always_false.push_clause("output", "always false", out)?;
+            always_true.push_clause("  Output", "always true", out)?;
+            always_false.push_clause(", and output", "always false", out)?;
             writeln!(
                 out,
                 "; where that isn't meant, a guarantee has to ask for more, as `G F {name}`"
@@ -75,9 +70,9 @@ fn push_unread(unread: u64, inputs: &[String], out: &mut String) -> Result<(), A
         return Ok(());
     }
     if unread.count() == inputs.len() {
-        out.push_str("  no input is looked at")?;
+        out.push_str("  No input is looked at")?;
     } else {
-        unread.push_sentence("input", "never looked at", out)?;
+        unread.push_clause("  Input", "never looked at", out)?;
     }
     out.push_str("; where that isn't meant, a guarantee has to say what follows from one\n")
 }
@@ -119,16 +114,11 @@ impl<'a> Signals<'a> {
         count
     }
 
-    /// Appends, as a line's beginning, that they are so: `  outputs a and b are always true`.
-    fn push_sentence(self, noun: &str, state: &str, out: &mut String) -> Result<(), AllocError> {
-        out.push(' ')?;
-        self.push_clause(noun, state, out)
-    }
-
+    /// Appends, behind a noun, that they are so: `Outputs a and b are always true`.
     fn push_clause(self, noun: &str, state: &str, out: &mut String) -> Result<(), AllocError> {
         let count = self.count();
         let (ending, verb) = if count == 1 { ("", "is") } else { ("s", "are") };
-        write!(out, " {noun}{ending}")?;
+        write!(out, "{noun}{ending}")?;
         self.push_names(count, out)?;
         write!(out, " {verb} {state}")
     }

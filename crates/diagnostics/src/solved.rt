@@ -60,7 +60,9 @@ pub fn found_line(
         push_shown(alloc, name.as_bytes(), &mut out)?;
         out.push_str(": ")?;
         push_strategy(side, states, &mut out)?;
-        out.push_str(" is found and tested; now showing that fewer don't do (--max 0 leaves this out)\n")?;
+        out.push_str(
+            " is found and tested; now showing that fewer don't do (--max 0 leaves this out)\n",
+        )?;
     }
     Ok(out)
 }
@@ -97,11 +99,7 @@ pub(crate) fn push_solved(
 }
 
 /// Appends how large a strategy is, how long it took, and what is known of smaller ones.
-fn push_size(
-    solved: Solved<'_>,
-    solution: Solution,
-    out: &mut String,
-) -> Result<(), AllocError> {
+fn push_size(solved: Solved<'_>, solution: Solution, out: &mut String) -> Result<(), AllocError> {
     let name = solved.name;
     write!(out, "{name}: ")?;
     push_strategy(solution.side, solution.states, out)?;
@@ -178,7 +176,12 @@ fn push_around(
         out.push_str("  ")?;
         push_end(refuted, solved.solving, out)?;
         out.push('\n')?;
-        push_next("try", solved.command, further(&[refuted], solved.solving), out)?;
+        push_next(
+            "try",
+            solved.command,
+            further(&[refuted], solved.solving),
+            out,
+        )?;
     }
     match solution.side {
         Side::System => Ok(()),
@@ -187,11 +190,7 @@ fn push_around(
 }
 
 /// Appends how to see why the environment wins. A core is had of the texts alone that `synth` takes.
-fn push_reasons(
-    name: &str,
-    signals: &SignalNames,
-    out: &mut String,
-) -> Result<(), AllocError> {
+fn push_reasons(name: &str, signals: &SignalNames, out: &mut String) -> Result<(), AllocError> {
     let name = if is_plain(name) { name } else { "SPEC" };
     let most = MOST_ALONE as usize;
     let has_core = !signals.is_converted()

@@ -206,12 +206,7 @@ fn smaller(searched: &Searched) -> Next {
 }
 
 /// Appends commands that may go further, or that there are none. A Mealy machine may do where no Moore machine does, and not the other way round.
-fn push_help(
-    kind: Kind,
-    command: &[&str],
-    next: Next,
-    out: &mut String,
-) -> Result<(), AllocError> {
+fn push_help(kind: Kind, command: &[&str], next: Next, out: &mut String) -> Result<(), AllocError> {
     let by_games = if is_synth(command) {
         push_solve(command, out)?
     } else {
@@ -241,7 +236,10 @@ fn push_solve(command: &[&str], out: &mut String) -> Result<bool, AllocError> {
         out.push_str("  try `solve`, which plays games, and isn't bound to eight states\n")?;
         return Ok(true);
     }
-    write!(out, "  try games, which aren't bound to eight states: boundsyn solve {name}")?;
+    write!(
+        out,
+        "  try games, which aren't bound to eight states: boundsyn solve {name}"
+    )?;
     if let Some(kind) = kind_in(command) {
         write!(out, " --kind {kind}")?;
     }

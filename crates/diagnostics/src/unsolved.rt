@@ -71,7 +71,10 @@ fn is_late(unwon: Unwon) -> bool {
 
 /// Whether a fault of the program keeps an answer from being printed.
 fn is_fault(why: Unsolved) -> bool {
-    matches!(why, Unsolved::Withheld(_, Withheld::Loses | Withheld::BadLine(_)))
+    matches!(
+        why,
+        Unsolved::Withheld(_, Withheld::Loses | Withheld::BadLine(_))
+    )
 }
 
 /// Appends what became of the games of whole automata, and of the sizes.
@@ -240,7 +243,12 @@ fn push_help(
 ) -> Result<(), AllocError> {
     push_next("try", solved.command, next, out)?;
     if kind == Kind::Moore {
-        return push_next("where a Mealy machine serves", solved.command, Next::MEALY, out);
+        return push_next(
+            "where a Mealy machine serves",
+            solved.command,
+            Next::MEALY,
+            out,
+        );
     }
     if next.is_nothing() {
         push_too_large(out)

@@ -51,11 +51,7 @@ pub(crate) fn push_wrong_words(
 /// The command that the words name.
 fn command_in(words: &[String]) -> Option<Command> {
     let command = command_of(words.get(1)?.as_str())?;
-    let is_solved = command.name == SOLVE_LIST_WORDS.name
-        && words
-            .iter()
-            .skip(2)
-            .any(|word| names_option(word.as_str(), "--solve"));
+    let is_solved = command.name == SOLVE_LIST_WORDS.name && is_given(words, "--solve");
     Some(if is_solved { SOLVE_LIST } else { command })
 }
 
@@ -316,7 +312,7 @@ impl Reading {
     }
 
     /// What is wrong where no word comes any more.
-    fn end<'a>(self, command: Command, words: &'a [String]) -> Wrong<'a> {
+    fn end<'a>(self, command: Command, words: &[String]) -> Wrong<'a> {
         let open = if self.is_open {
             last_option(command, words)
         } else {
@@ -331,19 +327,25 @@ impl Reading {
 }
 
 /// The option that `expand` and `lasso` have with `--solve` alone, where that isn't given.
-fn wrong_without_solve<'a>(command: Command, words: &'a [String]) -> Wrong<'a> {
-    let behind = words.get(2..).unwrap_or(&[]);
-    let is_given = |name: &str| behind.iter().any(|word| names_option(word.as_str(), name));
-    if command.places.is_empty() || command.option("--solve").is_none() || is_given("--solve") {
-        return Wrong::Other;
-    }
-    if is_given("--nodes") {
+fn wrong_without_solve<'a>(command: Command, words: &[String]) -> Wrong<'a> {
+    let has_solve = !command.places.is_empty() && command.option("--solve").is_some();
+    if !has_solve || is_given(words, "--solve") {
+        Wrong::Other
+    } else if is_given(words, "--nodes") {
         Wrong::NotSolved("--nodes")
-    } else if is_given("--kind") {
+    } else if is_given(words, "--kind") {
         Wrong::NotSolved("--kind")
     } else {
         Wrong::Other
     }
+}
+
+/// Whether an option is given.
+fn is_given(words: &[String], name: &str) -> bool {
+    words
+        .iter()
+        .skip(2)
+        .any(|word| names_option(word.as_str(), name))
 }
 
 /// The option that the last word names.

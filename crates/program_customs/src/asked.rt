@@ -51,12 +51,25 @@ pub fn take_output(
         words.remove(place);
         return Ok(Some(name));
     }
-    let is_output = word.as_str() == "-o" || word.as_str() == "--output";
-    if !is_output || !has_name(words, place) {
+    if !is_output(word.as_str()) || !has_name(words, place) {
         return Ok(None);
     }
     words.remove(place);
     Ok(taken(words, place))
+}
+
+fn is_output(word: &str) -> bool {
+    word == "-o" || word == "--output"
+}
+
+/// The first word behind the program's name, where it is one for the output's file that was left there: it names none, or is the second one.
+pub fn left_output(words: &[String]) -> Option<&str> {
+    let word = words.get(1)?.as_str();
+    if is_output(word) || word.starts_with("--output=") {
+        Some(word)
+    } else {
+        None
+    }
 }
 
 /// The place behind the program's name and its own words.

@@ -11,7 +11,7 @@ mod outputs;
 mod standard_input;
 mod targets;
 
-pub use asked::{Asked, asked_of, take_output};
+pub use asked::{Asked, asked_of, left_output, take_output};
 pub use messages::{twice_message, unwritten_message};
 pub use outputs::ProgramOutput;
 pub use standard_input::{file_of, is_input, with_input};

@@ -14,5 +14,7 @@ pub fn unwritten_message(
 
 /// That standard input is named twice.
 pub fn twice_message(alloc: Global, program: &str) -> Result<String, AllocError> {
-    format!(in alloc; "{program}: error: `-` is standard input, which is read once, and stands there twice\n")
+    format!(in alloc;
+        "{program}: error: `-` is standard input, which is read once, and stands there twice\n"
+    )
 }
