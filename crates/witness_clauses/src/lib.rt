@@ -1,6 +1,10 @@
 //! The base clauses of a witness's obligations, listed in their order.
 #![tactic(auto)]
 
+mod claims;
+mod ids;
+mod literals;
 mod making;
 
+pub use claims::{Claim, Claimed};
 pub use making::add_made;
