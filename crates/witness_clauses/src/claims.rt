@@ -1,8 +1,7 @@
 //! What is claimed, and the literals of a frame.
 
-ghost use Rattle.std.specs.Prelude.{◌≡◌, ◌≤◌, ◌<◌, ◌+◌, ◌*◌, ◌^◌, IfOk, length};
-ghost use Rattle.ltl_formula.specs.Nodes.{IsNodeIn};
-ghost use Rattle.truth_witness.specs.Variables.{frame_size, gate_literal, ids, latch_literal, rise_literal, shifted, signal_literal, top_literal, truth_literal};
+ghost use Rattle.std.specs.Prelude.{◌≡◌, ◌≤◌, ◌<◌, ◌+◌, ◌*◌, ◌^◌, ◌++◌, IfOk, length, slice_index_or};
+ghost use Rattle.truth_witness.specs.Variables.{frame_size, gate_literal, latch_literal, rise_literal, shifted, signal_literal, top_literal, truth_literal};
 ghost use Rattle.witness_clauses.specs.Counted.{IsCountable, claim_of};
 
 use crate::ids::{occurring, place_of};

@@ -1,9 +1,7 @@
 //! Which formulas of a list occur in one of them.
 
-ghost use Rattle.std.specs.Prelude.{◌≡◌, ℕ, ◌<◌, ◌≤◌, IfOk, length, slice_index_or, false, nat_eq};
-ghost use Rattle.std.specs.List.{list_any};
-ghost use Rattle.std.specs.Bool.{◌||◌};
-ghost use Rattle.ltl_formula.specs.Nodes.{IsNodeIn, IsNodeList, PartsBelow};
+ghost use Rattle.std.specs.Prelude.{◌≡◌, ◌<◌, ◌≤◌, ◌∷◌, [], IfOk, length};
+ghost use Rattle.ltl_formula.specs.Nodes.{IsNodeIn, PartsBelow};
 ghost use Rattle.truth_witness.specs.Variables.{occurring, parts_of, place_of};
 ghost use Rattle.witness_clauses.specs.Marks.{AddsMarks};
 
@@ -72,5 +70,10 @@ pub(crate) fn place_of(ids: &[u32], id: u32) -> usize
     ensures place { result ≡ place_of id ids.now }
     ensures small { result ≤ length ids.now }
 {
-    ids.iter().position(|other| *other == id).unwrap_or(ids.len())
+    for (place, other) in ids.iter().enumerate() {
+        if *other == id {
+            return place;
+        }
+    }
+    ids.len()
 }
