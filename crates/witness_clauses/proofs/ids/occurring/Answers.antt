@@ -1,13 +1,21 @@
-use Rattle.std.proofs.Common.{rules, ◌≡◌, ◌<◌, ◌≤◌, ◌∷◌, [], IfOk, length, ℕ, ◌+◌, ◌-◌, ◌*◌, ◌/◌, ◌%◌, Bool, true, false, nat_eq, nat_lt, List, ◌++◌, slice_index_or, slice_set, bit_and, bit_or, Fits, w8, w32, w64, Bor, MutBor}
-use Rattle.ltl_formula.specs.Nodes.{IsNodeIn, PartsBelow}
-use Rattle.truth_witness.specs.Variables.{occurring, parts_of, place_of}
-use Rattle.witness_clauses.specs.Marks.{AddsMarks}
+use Rattle.std.proofs.Common.{rules, ◌≡◌, ◌<◌, ◌≤◌, ◌-◌, true, false, length, get_or, sym, ◌∙◌, arith}
+use Rattle.std.proofs.lemmas.List.{get_or_default}
+use Rattle.witness_clauses.proofs.Marking.{lists_first, lists_more}
 use Rattle.witness_clauses.proofs.ids.occurring.Goals as goal
 
--- src/ids.rt:24:5
 pub loop-id-init : goal.loop-id-init
-loop-id-init c = ?
+loop-id-init c =
+    lists_first c.args.formulas.now c.args.form c.node.result c.push.new.self.items c.in_ok-marks.marks.items c.mark_parts.new.marks.items (search rules)
+    c.node.ensures.value c.mark_parts.ensures (search rules)
 
--- src/ids.rt:24:5
 pub loop-id-preserved-then-index : goal.loop-id-preserved-then-index
-loop-id-preserved-then-index c = ?
+loop-id-preserved-then-index c =
+    let few : c.loop-id.id ≤ c.args.form.0 = search rules in
+    let stands : c.args.form.0 < length c.args.formulas.now = search rules in
+    let some : 0 < c.loop-id.id = search rules in
+    let all : length c.loop-id.marks.items ≡ length c.args.formulas.now = c.loop-id.invariant.count in
+    let within : c.loop-id.id - 1 < length c.loop-id.marks.items = omega arith in
+    let on : get_or c.loop-id.marks.items (c.loop-id.id - 1) false ≡ true =
+    get_or_default c.loop-id.marks.items (c.loop-id.id - 1) false c.index.result.now within ∙ sym c.index.ensures ∙ c.if-index.true in
+    lists_more c.args.formulas.now c.args.form c.loop-id.id c.node-then-index.result c.loop-id.ids.items c.push-then-index.new.self.items c.loop-id.marks.items
+    c.mark_parts-then-index.new.marks.items some c.loop-id.invariant on c.node-then-index.ensures.value c.mark_parts-then-index.ensures (search rules)
