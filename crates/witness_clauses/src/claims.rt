@@ -93,14 +93,16 @@ impl<'a> Claim<'a> {
     /// The literal of the witness's latch with this number.
     pub(crate) fn latch_literal(&self, place: usize) -> u32
         requires { place < length self.now.witness.latches }
-        ensures { result ≡ latch_literal self.now place }
+        ensures value { result ≡ latch_literal self.now place }
+        ensures small { result ≤ 2 ^ 30 }
     {
         2 * (self.ids_end + 1 + place as u32)
     }
 
     /// The literal that says that the formula of an id is true.
     pub(crate) fn truth_literal(&self, id: FormulaId) -> u32
-        ensures { result ≡ truth_literal self.now id }
+        ensures value { result ≡ truth_literal self.now id }
+        ensures small { result ≤ 2 ^ 30 }
     {
         let circuit = self.claimed.circuit;
         2 * (circuit.variables + 1 + place_of(&self.ids, id.0) as u32)
@@ -119,7 +121,7 @@ impl<'a> Claim<'a> {
 
     /// The literal of the next position.
     pub(crate) fn shifted(&self, lit: u32) -> u32
-        requires { lit ≤ top_literal self.now }
+        requires { lit ≤ 2 ^ 30 }
         ensures { result ≡ shifted self.now lit }
     {
         if lit < 2 { lit } else { lit + 2 * self.frame }

@@ -4,7 +4,7 @@ ghost use Rattle.std.specs.Prelude.{◌≡◌, ◌++◌, ◌∷◌, [], IfOk, On
 ghost use Rattle.std.specs.List.{flat_map};
 ghost use Rattle.ltl_formula.specs.Nodes.{node_at};
 ghost use Rattle.truth_witness.specs.Clauses.{conjoined, opposite};
-ghost use Rattle.truth_witness.specs.Variables.{gate_literal, ids, truth_literal};
+ghost use Rattle.truth_witness.specs.Variables.{gate_literal, truth_literal};
 ghost use Rattle.truth_witness.specs.Frames.{as_id, frame, node_here, numbered};
 
 use crate::claims::Claim;
@@ -12,6 +12,7 @@ use crate::literals::{Literals, add, add_conjoined, add_equal, opposite};
 use aiger_text::Gate;
 use ltl_formula::{FormulaId, Formulas, Node};
 use std::alloc::{AllocError, Global};
+use truth_witness::Operands;
 
 impl Claim<'_> {
     /// The clauses of a position.
@@ -21,16 +22,22 @@ impl Claim<'_> {
         let mut clauses = Vec::new(alloc);
         let circuit = self.claimed.circuit;
         add_gates(alloc, &circuit.gates, &mut clauses)?;
-        self.add_truths(alloc, &mut clauses)?;
-        self.add_own_gates(alloc, &mut clauses)?;
+        self.add_truths(alloc, &self.ids, &mut clauses)?;
+        let witness = self.claimed.witness;
+        self.add_own_gates(alloc, &witness.gates, &mut clauses)?;
         Ok(clauses)
     }
 
-    /// What the truth of each id that occurs owes to its own position.
-    fn add_truths(&self, alloc: Global, clauses: &mut Vec<Literals>) -> Result<(), AllocError>
-        ensures { OnOk result (clauses.new.items ≡ clauses.old.items ++ flat_map (λ g. node_here self.now (truth_literal self.now (as_id g)) (node_at self.now.nodes g)) (ids self.now)) }
+    /// What the truth of each id owes to its own position.
+    fn add_truths(
+        &self,
+        alloc: Global,
+        ids: &[u32],
+        clauses: &mut Vec<Literals>,
+    ) -> Result<(), AllocError>
+        ensures { OnOk result (clauses.new.items ≡ clauses.old.items ++ flat_map (λ g. node_here self.now (truth_literal self.now (as_id g)) (node_at self.now.nodes g)) ids.now) }
     {
-        for id in &self.ids {
+        for id in ids {
             self.add_truth(alloc, FormulaId(*id), clauses)?;
         }
         Ok(())
@@ -85,11 +92,16 @@ impl Claim<'_> {
     }
 
     /// The witness's gates are as written.
-    fn add_own_gates(&self, alloc: Global, clauses: &mut Vec<Literals>) -> Result<(), AllocError>
-        ensures { OnOk result (clauses.new.items ≡ clauses.old.items ++ numbered (λ k operands. conjoined (gate_literal self.now k) operands.left operands.right) 0 self.now.witness.gates) }
+    fn add_own_gates(
+        &self,
+        alloc: Global,
+        gates: &[Operands],
+        clauses: &mut Vec<Literals>,
+    ) -> Result<(), AllocError>
+        requires { gates.now ≡ self.now.witness.gates }
+        ensures { OnOk result (clauses.new.items ≡ clauses.old.items ++ numbered (λ k operands. conjoined (gate_literal self.now k) operands.left operands.right) 0 gates.now) }
     {
-        let witness = self.claimed.witness;
-        for (place, operands) in witness.gates.iter().enumerate() {
+        for (place, operands) in gates.iter().enumerate() {
             let gate = self.gate_literal(place);
             add_conjoined(alloc, gate, operands.left, operands.right, clauses)?;
         }

@@ -6,6 +6,7 @@ mod frames;
 mod ids;
 mod literals;
 mod making;
+mod steps;
 
 pub use claims::{Claim, Claimed};
 pub use making::add_made;

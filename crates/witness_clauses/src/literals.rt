@@ -29,6 +29,13 @@ impl Literals {
         })
     }
 
+    /// The clause of a list of literals.
+    pub(crate) fn of(lits: Vec<u32>) -> Literals
+        ensures { result ≡ lits.items }
+    {
+        Literals { lits }
+    }
+
     pub(crate) fn lits(&self) -> &[u32]
         ensures { result.now ≡ self.now }
     {
