@@ -1,3 +1,4 @@
 pub mod Made
 pub mod Marking
 pub mod Numbering
+pub mod Bounds
