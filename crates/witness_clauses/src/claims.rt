@@ -121,7 +121,7 @@ impl<'a> Claim<'a> {
 
     /// The literal of the next position.
     pub(crate) fn shifted(&self, lit: u32) -> u32
-        requires { lit ≤ 2 ^ 30 }
+        requires { lit ≤ 2 ^ 30 + 1 }
         ensures { result ≡ shifted self.now lit }
     {
         if lit < 2 { lit } else { lit + 2 * self.frame }

@@ -2,6 +2,7 @@
 #![tactic(auto)]
 
 mod claims;
+mod falls;
 mod frames;
 mod ids;
 mod literals;

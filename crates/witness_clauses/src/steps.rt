@@ -1,6 +1,6 @@
 //! What holds of the first position of a run, and of two that follow each other.
 
-ghost use Rattle.std.specs.Prelude.{◌≡◌, ◌≤◌, ◌^◌, ◌++◌, ◌∷◌, [], map, All, IfOk, OnOk, if◌then◌else◌};
+ghost use Rattle.std.specs.Prelude.{◌≡◌, ◌≤◌, ◌+◌, ◌^◌, ◌++◌, ◌∷◌, [], map, All, IfOk, OnOk, if◌then◌else◌};
 ghost use Rattle.std.specs.List.{flat_map};
 ghost use Rattle.ltl_formula.specs.Nodes.{node_at};
 ghost use Rattle.truth_witness.specs.Clauses.{equal, opposite};
@@ -142,7 +142,7 @@ impl Claim<'_> {
         alloc: Global,
         clauses: &[Literals],
     ) -> Result<Vec<Literals>, AllocError>
-        requires { All (All (λ l. l ≤ 2 ^ 30)) clauses.now }
+        requires { All (All (λ l. l ≤ 2 ^ 30 + 1)) clauses.now }
         ensures { IfOk result (λ next. next.items ≡ map (map (shifted self.now)) clauses.now) }
     {
         let mut next = Vec::with_capacity(alloc, clauses.len())?;
@@ -153,7 +153,7 @@ impl Claim<'_> {
     }
 
     fn next_clause(&self, alloc: Global, lits: &[u32]) -> Result<Literals, AllocError>
-        requires { All (λ l. l ≤ 2 ^ 30) lits.now }
+        requires { All (λ l. l ≤ 2 ^ 30 + 1) lits.now }
         ensures { IfOk result (λ clause. clause ≡ map (shifted self.now) lits.now) }
     {
         let mut next = Vec::with_capacity(alloc, lits.len())?;
