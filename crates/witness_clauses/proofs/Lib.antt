@@ -2,3 +2,4 @@ pub mod Made
 pub mod Marking
 pub mod Numbering
 pub mod Bounds
+pub mod Rising

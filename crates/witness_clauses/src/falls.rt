@@ -50,7 +50,8 @@ impl Claim<'_> {
         let rank = &part.rank;
         self.add_not_awaited(alloc, part, named, clauses)?;
         self.add_bits_rise(alloc, rank, clauses)?;
-        add(alloc, &[self.rise_literal(rank.len())], clauses)
+        add(alloc, &[self.rise_literal(rank.len())], clauses)?;
+        Ok(())
     }
 
     /// The untils among ids, in their order.
@@ -89,9 +90,24 @@ impl Claim<'_> {
         ensures { OnOk result (clauses.new.items ≡ clauses.old.items ++ numbered (λ j u. (opposite (rise_literal self.now 0) ∷ not_awaited self.now part.now j u) ∷ []) 0 untils.now) }
     {
         for (number, until) in untils.iter().enumerate() {
-            let clause = self.not_awaited(alloc, part, number as u64, until)?;
-            clauses.push(Literals::of(clause))?;
+            self.add_one_not_awaited(alloc, part, number as u64, until, clauses)?;
         }
+        Ok(())
+    }
+
+    fn add_one_not_awaited(
+        &self,
+        alloc: Global,
+        part: &Part,
+        number: u64,
+        until: &Awaited,
+        clauses: &mut Vec<Literals>,
+    ) -> Result<(), AllocError>
+        requires { IsSmallPart part.now }
+        ensures { OnOk result (clauses.new.items ≡ clauses.old.items ++ (opposite (rise_literal self.now 0) ∷ not_awaited self.now part.now number until.now) ∷ []) }
+    {
+        let clause = self.not_awaited(alloc, part, number, until)?;
+        clauses.push(Literals::of(clause))?;
         Ok(())
     }
 
