@@ -3,3 +3,4 @@ pub mod Marking
 pub mod Numbering
 pub mod Bounds
 pub mod Rising
+pub mod Fitting

@@ -7,6 +7,7 @@ mod frames;
 mod ids;
 mod literals;
 mod making;
+mod obligations;
 mod steps;
 
 pub use claims::{Claim, Claimed};
