@@ -4,3 +4,4 @@ pub mod Numbering
 pub mod Bounds
 pub mod Rising
 pub mod Fitting
+pub mod Formulas

@@ -5,6 +5,7 @@ mod claims;
 mod falls;
 mod frames;
 mod ids;
+pub mod laws;
 mod literals;
 mod making;
 mod obligations;

@@ -6,8 +6,8 @@ ghost use Rattle.truth_witness.specs.declared.witnesses.Obligation.TheVariants.{
 ghost use Rattle.truth_witness.specs.Falls.{fall};
 ghost use Rattle.truth_witness.specs.Variables.{shifted, top_literal};
 ghost use Rattle.truth_witness.specs.Obligations.{IsObligationOf, at_start, in_step, next, not_next, now, own, part_at, variables_of};
-ghost use Rattle.truth_witness.specs.Proved.{IsWitnessFor};
-ghost use Rattle.witness_clauses.specs.Smallness.{IsSmallPart};
+ghost use Rattle.witness_clauses.specs.Counted.{IsCountable};
+ghost use Rattle.truth_witness.specs.Proved.{IsPartFor, IsWitnessFor};
 
 use crate::claims::Claim;
 use crate::literals::{Literals, add, opposite};
@@ -68,6 +68,7 @@ impl Claim<'_> {
         requires owed { IsObligationOf self.now.witness obligation }
         ensures value { result ≡ variables_of self.now obligation }
         ensures small { result ≤ 2 ^ 30 }
+        ensures countable { IsCountable self.now }
     {
         let frame = self.frame_size();
         match obligation {
@@ -174,10 +175,10 @@ impl Claim<'_> {
 
     fn own_fall(&self, alloc: Global, part: &Part) -> Result<Vec<Literals>, AllocError>
         requires fits { IsWitnessFor self.now }
-        requires inv { part.now.inv ≤ top_literal self.now }
-        requires small { IsSmallPart part.now }
+        requires part { IsPartFor self.now part.now }
         ensures { IfOk result (λ clauses. clauses.items ≡ now self.now.witness.always ∷ next self.now self.now.witness.always ∷ now part.now.inv ∷ next self.now part.now.inv ∷ fall self.now part.now) }
     {
+        let _frame = self.frame_size();
         let always = self.always();
         let mut clauses = Vec::new(alloc);
         add(alloc, &[always], &mut clauses)?;
