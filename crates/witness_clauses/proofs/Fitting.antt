@@ -1,6 +1,6 @@
 -- The literals of each obligation are literals of its variables.
-use Rattle.std.proofs.Common.{◌≡◌, ℕ, zero, suc, ◌+◌, ◌*◌, ◌<◌, ◌≤◌, Bool, true, false, cond, List, [], ◌∷◌, ◌++◌, length, get_or, refl, sym, subst, arith, inl, inr}
-use Rattle.std.specs.Prelude.{map, All, Some, slice_get, nat_lt, take}
+use Rattle.std.proofs.Common.{◌≡◌, ℕ, ◌+◌, ◌*◌, ◌<◌, ◌≤◌, cond, List, [], ◌∷◌, ◌++◌, length, get_or, refl, sym, subst, arith, inl, inr}
+use Rattle.std.specs.Prelude.{map, All, Some, slice_get, nat_lt}
 use Rattle.std.specs.List.{flat_map}
 use Rattle.std.proofs.lemmas.Bool.{cond_both}
 use Rattle.std.proofs.lemmas.Option.{get_or_from_slice_get, slice_get_within}
@@ -19,7 +19,7 @@ use Rattle.truth_witness.specs.Witness.{Part, Claim}
 use Rattle.truth_witness.specs.Variables.{parts_of, ids, frame_size, truth_literal, latch_literal, rise_literal, shifted}
 use Rattle.truth_witness.specs.Frames.{as_id, numbered, node_ahead, frame, next_frame, start, step}
 use Rattle.truth_witness.specs.Falls.{Awaited, named_untils, differs, not_awaited, bit_rises, bits_rise, fall}
-use Rattle.truth_witness.specs.Obligations.{part_at, now, next, not_next, IsObligationOf, own, variables_of}
+use Rattle.truth_witness.specs.Obligations.{part_at, next, IsObligationOf, own, variables_of}
 use Rattle.truth_witness.specs.Proved.{IsPartFor, IsWitnessFor}
 use Rattle.truth_witness.proofs.Values.{opposite_within}
 use Rattle.truth_witness.proofs.Ids.{In, own_occurs, parts_occur}

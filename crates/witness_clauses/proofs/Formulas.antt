@@ -1,5 +1,5 @@
 -- The base clauses of an obligation are a formula over its variables.
-use Rattle.std.proofs.Common.{◌≡◌, ℕ, zero, suc, ◌+◌, ◌*◌, ◌/◌, ◌%◌, ◌^◌, ◌<◌, ◌≤◌, cond, List, [], ◌∷◌, ◌++◌, length, refl, arith}
+use Rattle.std.proofs.Common.{◌≡◌, ℕ, zero, suc, ◌+◌, ◌*◌, ◌/◌, ◌%◌, ◌^◌, ◌<◌, ◌≤◌, cond, List, [], ◌∷◌, ◌++◌, length, arith}
 use Rattle.std.specs.Prelude.{map, All, nat_eq, nat_lt}
 use Rattle.std.proofs.Math.Nat.{div-add-mod, mod-lt}
 use Rattle.std.proofs.lemmas.Bool.{cond_both}
@@ -11,14 +11,13 @@ use Rattle.aiger_text.specs.CircuitType.{IsCircuit}
 use Rattle.truth_witness.specs.declared.witnesses.Obligation.{Obligation}
 use Rattle.truth_witness.specs.declared.witnesses.Obligation.TheVariants.{Base, Keep, Cover, Enter, Stay, Fall}
 use Rattle.truth_witness.specs.Clauses.{is_valid, placed, rising, literal_of, made, base_clauses}
-use Rattle.truth_witness.specs.Witness.{Part, Claim}
+use Rattle.truth_witness.specs.Witness.{Claim}
 use Rattle.truth_witness.specs.Variables.{frame_size}
 use Rattle.truth_witness.specs.Frames.{frame, next_frame, start, step}
 use Rattle.truth_witness.specs.Obligations.{part_at, IsObligationOf, at_start, in_step, shared, own, clauses_of, variables_of}
 use Rattle.truth_witness.specs.Proved.{IsPartFor, IsWitnessFor}
 use Rattle.truth_witness.proofs.Meeting.{AtMost}
 use Rattle.truth_witness.proofs.Within.{frame_within}
-use Rattle.witness_clauses.specs.Counted.{IsCountable}
 use Rattle.witness_clauses.specs.Laws.{ObligationsAreFormulas}
 use Rattle.witness_clauses.proofs.Fitting.{more_clauses, start_within, next_within, step_within, own_within}
 
@@ -94,7 +93,7 @@ module _ (x : Claim) (circuit : IsCircuit x.circuit) (list : IsNodeList x.nodes)
   an_obligation few o is = (
     few_variables few o is,
     base_within (variables_of x o) (shared x o ++ own x o)
-    (All-append (All (AtMost (variables_of x o))) (shared x o) (own x o) (shared_within o) (own_within x circuit list fits o is)),
+        (All-append (All (AtMost (variables_of x o))) (shared x o) (own x o) (shared_within o) (own_within x circuit list fits o is)),
   )
 
 pub all_are_formulas : ObligationsAreFormulas

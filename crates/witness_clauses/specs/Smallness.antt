@@ -1,5 +1,5 @@
 -- Literals that fit the code's numbers, also at the next position (this project's own).
-use Rattle.std.specs.Prelude.{ℕ, ◌+◌, ◌^◌, ◌≤◌, All, length}
+use Rattle.std.specs.Prelude.{◌+◌, ◌^◌, ◌≤◌, All, length}
 use Rattle.truth_witness.specs.Witness.{Part}
 
 -- the literals of the part's bits are small, and the bits are few

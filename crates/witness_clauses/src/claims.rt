@@ -66,6 +66,14 @@ impl<'a> Claim<'a> {
         })
     }
 
+    /// The witness.
+    pub fn witness(&self) -> &Witness
+        ensures value { result.now ≡ self.now.witness }
+        ensures countable { IsCountable self.now }
+    {
+        self.claimed.witness
+    }
+
     /// The number of variables of a frame.
     pub fn frame_size(&self) -> u32
         ensures value { result ≡ frame_size self.now }

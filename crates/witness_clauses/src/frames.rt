@@ -71,16 +71,40 @@ impl Claim<'_> {
             Node::Signal(signal) => add_equal(alloc, v, self.signal_literal(signal), clauses),
             Node::Not(a) => add_equal(alloc, v, opposite(self.truth_literal(a)), clauses),
             Node::And(a, b) => {
-                add_conjoined(alloc, v, self.truth_literal(a), self.truth_literal(b), clauses)
+                add_conjoined(
+                    alloc,
+                    v,
+                    self.truth_literal(a),
+                    self.truth_literal(b),
+                    clauses,
+                )
             }
             Node::Or(a, b) => {
-                add_or_here(alloc, v, self.truth_literal(a), self.truth_literal(b), clauses)
+                add_or_here(
+                    alloc,
+                    v,
+                    self.truth_literal(a),
+                    self.truth_literal(b),
+                    clauses,
+                )
             }
             Node::Until(a, b) => {
-                add_until_here(alloc, v, self.truth_literal(a), self.truth_literal(b), clauses)
+                add_until_here(
+                    alloc,
+                    v,
+                    self.truth_literal(a),
+                    self.truth_literal(b),
+                    clauses,
+                )
             }
             Node::Release(a, b) => {
-                add_release_here(alloc, v, self.truth_literal(a), self.truth_literal(b), clauses)
+                add_release_here(
+                    alloc,
+                    v,
+                    self.truth_literal(a),
+                    self.truth_literal(b),
+                    clauses,
+                )
             }
             Node::Next(_)
             | Node::Finally(_)
@@ -121,11 +145,7 @@ pub(crate) fn node_at(formulas: &Formulas, id: FormulaId) -> Node
 }
 
 /// Each gate of a circuit is as written.
-fn add_gates(
-    alloc: Global,
-    gates: &[Gate],
-    clauses: &mut Vec<Literals>,
-) -> Result<(), AllocError>
+fn add_gates(alloc: Global, gates: &[Gate], clauses: &mut Vec<Literals>) -> Result<(), AllocError>
     ensures { OnOk result (clauses.new.items ≡ clauses.old.items ++ flat_map (λ gate. conjoined gate.literal gate.left gate.right) gates.now) }
 {
     for gate in gates {

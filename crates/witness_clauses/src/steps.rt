@@ -24,7 +24,11 @@ impl Claim<'_> {
         add_resets(alloc, &circuit.latches, &mut clauses)?;
         let witness = self.claimed.witness;
         self.add_own_resets(alloc, &witness.latches, &mut clauses)?;
-        add(alloc, &[self.truth_literal(self.claimed.form)], &mut clauses)?;
+        add(
+            alloc,
+            &[self.truth_literal(self.claimed.form)],
+            &mut clauses,
+        )?;
         Ok(clauses)
     }
 
@@ -100,10 +104,24 @@ impl Claim<'_> {
         match node_at(self.claimed.formulas, id) {
             Node::Next(a) => add_equal(alloc, v, self.shifted(self.truth_literal(a)), clauses),
             Node::Until(a, b) => {
-                add_until_ahead(alloc, v, self.truth_literal(a), self.truth_literal(b), self.shifted(v), clauses)
+                add_until_ahead(
+                    alloc,
+                    v,
+                    self.truth_literal(a),
+                    self.truth_literal(b),
+                    self.shifted(v),
+                    clauses,
+                )
             }
             Node::Release(a, b) => {
-                add_release_ahead(alloc, v, self.truth_literal(a), self.truth_literal(b), self.shifted(v), clauses)
+                add_release_ahead(
+                    alloc,
+                    v,
+                    self.truth_literal(a),
+                    self.truth_literal(b),
+                    self.shifted(v),
+                    clauses,
+                )
             }
             Node::True
             | Node::False

@@ -1,5 +1,4 @@
-use Rattle.std.proofs.Common.{rules, ◌≡◌, get_or, ◌-◌, ◌<◌, ◌≤◌, length, refl, sym, ◌∙◌, arith}
-use Rattle.std.proofs.lemmas.List.{get_or_default}
+use Rattle.std.proofs.Common.{rules, get_or, ◌-◌, length, refl}
 use Rattle.witness_clauses.proofs.Rising.{rises_on}
 use Rattle.witness_clauses.proofs.claims.Claim.add_bits_rise.Goals as goal
 

@@ -1,4 +1,4 @@
-use Rattle.std.proofs.Common.{rules, ◌≡◌, ◌++◌, [], ◌∷◌, subst}
+use Rattle.std.proofs.Common.{◌≡◌, ◌++◌, [], ◌∷◌, subst}
 use Rattle.truth_witness.specs.Clauses.{opposite}
 use Rattle.truth_witness.specs.Variables.{rise_literal}
 use Rattle.truth_witness.specs.Falls.{not_awaited}

@@ -1,4 +1,4 @@
-use Rattle.std.proofs.Common.{rules, ◌≡◌, ◌≤◌, ◌^◌, ap, arith}
+use Rattle.std.proofs.Common.{◌≡◌, ◌≤◌, ◌^◌, ap, arith}
 use Rattle.aiger_text.specs.Circuit.{Circuit}
 use Rattle.truth_witness.specs.Variables.{frame_size}
 use Rattle.witness_clauses.specs.Counted.{claim_of}
