@@ -111,10 +111,13 @@ fn push_found(
         Side::System => "system",
         Side::Environment => "environment",
     };
-    let verdict = match text_problems(alloc, text, None, Counts::Whole) {
-        Ok(problems) if is_passed(alloc, &problems, side, circuit)? => "passes",
-        Ok(_) => "is rejected",
-        Err(_) => "has no automaton",
+    let Ok(problems) = text_problems(alloc, text, None, Counts::Whole) else {
+        return out.extend_from_slice(b"no automaton\n");
+    };
+    let verdict = if is_passed(alloc, &problems, side, circuit)? {
+        "passes"
+    } else {
+        "is rejected"
     };
     let line = format!(in alloc; "{winner} {verdict}\n")?;
     out.extend_from_slice(line.as_bytes())
