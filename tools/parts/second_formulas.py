@@ -18,37 +18,54 @@ class Formulas(list):
     """The list of formulas: different nodes (sign, part ..), each behind its parts; a signal is ("signal", number)."""
     __hash__ = object.__hash__
 
-    def __init__(self, rows, signals):
+    def __init__(self, most=MOST_NODES):
         super().__init__()
-        self.ids = {}
+        self.ids, self.most, self.is_whole = {}, most, False
+
+    @classmethod
+    def given(cls, rows, signals):
+        """The list of such lines, which lacks no node that one asks for."""
+        made = cls(len(rows))
         for at, (mark, place, sign, *parts) in enumerate(row.split(" ") for row in rows):
             node = (sign, signals[parts[0]]) if sign == "signal" else (sign, *map(int, parts))
-            is_next = mark == "node" and int(place) == at and len(parts) == PARTS[sign] and node not in self.ids
+            is_next = mark == "node" and int(place) == at and len(parts) == PARTS[sign] and node not in made.ids
             if not is_next or (sign != "signal" and any(part >= at for part in node[1:])):
                 raise WrongAnswer(f"the line `{mark} {place} {sign}` isn't that of a new node of id {at} over nodes before it")
-            self.ids[node] = at
-            self.append(node)
+            made.add(*node)
+        made.is_whole = True
+        return made
 
-    def find(self, *node):
-        """The id of a node, which stands in the list."""
+    def add(self, *node):
+        """The id of a node, which is made where none stands."""
         if node not in self.ids:
-            raise WrongAnswer(f"the list of formulas lacks the node {node}")
+            if self.is_whole:
+                raise WrongAnswer(f"the list of formulas lacks the node {node}")
+            if len(self) == self.most:
+                raise TextFault("refused 14 TooManyNodes at 0")
+            self.ids[node] = len(self)
+            self.append(node)
         return self.ids[node]
 
     def read(self, tokens, signals):
-        """The formula at the end of the tokens, which stand backwards."""
+        """The formula at the end of the tokens, which stand backwards: nodes from left to right, parts before wholes."""
         token = tokens.pop()
         if token == "!":
-            return self.find("!", self.read(tokens, signals))
+            return self.add("!", self.read(tokens, signals))
         if token != "(":
-            return self.find(token) if token in ("true", "false") else self.find("signal", signals[token])
+            return self.add(token) if token in ("true", "false") else self.add("signal", signals[token])
         if tokens[-1] in ("X", "F", "G"):
-            found = self.find(tokens.pop(), self.read(tokens, signals))
+            made = self.add(tokens.pop(), self.read(tokens, signals))
         else:
-            left, sign = self.read(tokens, signals), tokens.pop()
-            found = self.find(sign, left, self.read(tokens, signals))
+            made = self.read_joined(tokens, signals)
         tokens.pop()
-        return found
+        return made
+
+    def read_joined(self, tokens, signals):
+        """An operator over two formulas. A truth on the left becomes a node behind those of what stands on the right."""
+        truth = tokens.pop() if tokens[-1] in ("true", "false") else None
+        left, sign = None if truth else self.read(tokens, signals), tokens.pop()
+        right = self.read(tokens, signals)
+        return self.add(sign, self.add(truth) if truth else left, right)
 
     def parts_of(self, formula):
         sign, *parts = self[formula]
@@ -74,7 +91,7 @@ class Formulas(list):
         return sorted(at for at in self.occurring(formula) if self[at][0] == "U")
 
 def whole_of(node, sections, is_strict):
-    """The formula of the whole, over those of the sections."""
+    """The formula of the whole, its nodes in the order that the table of semantics has."""
     def part(name):
         return functools.reduce(lambda x, y: node("&&", x, y), sections.get(name) or [node("true")])
     initially, preset = part("initially"), part("preset")
@@ -89,16 +106,18 @@ def whole_of(node, sections, is_strict):
     return node("->", initially, node("&&", preset, node("->", assumed, wanted)))
 
 class Flat:
-    """What `expand --solve --nodes` writes: names, the kind, the list of formulas, and the formula of the whole, which is found in it."""
-    def __init__(self, text):
+    """What `expand` writes: names, the kind, and the formula of the whole. With `--solve --nodes` it is found in the list of formulas that stands there, and else
+    in one that is made, of at most so many."""
+    def __init__(self, text, most=MOST_NODES):
         kind, inputs, outputs, *lines = text.splitlines()
         self.inputs, self.outputs, self.kind = inputs.split(" ")[1:], outputs.split(" ")[1:], kind.split(" ")[1]
         signals = {name: at for at, name in enumerate(self.inputs + self.outputs)}
-        self.formulas = Formulas([line for line in lines if line.startswith("node ")], signals)
-        self.lines, sections = [line for line in lines if not line.startswith("node ")], {}
+        rows = [line for line in lines if line.startswith("node ")]
+        self.formulas = Formulas.given(rows, signals) if rows else Formulas(most)
+        self.lines, sections = lines[:len(lines) - len(rows)], {}
         for section, formula in (line.split(" ", 1) for line in self.lines):
             sections.setdefault(section, []).append(self.formulas.read(tokens_of(formula)[::-1], signals))
-        self.whole = whole_of(self.formulas.find, sections, kind.endswith(" strict"))
+        self.whole = whole_of(self.formulas.add, sections, kind.endswith(" strict"))
 
 def tokens_of(formula):
     return re.findall(r"[()!]|[^ ()!]+", formula)
@@ -117,15 +136,15 @@ def is_conversion(plain, shifted, names):
 FACING = {"&&": "||", "||": "&&", "U": "R", "R": "U"}
 
 def join(formulas, sign, x, y):
-    """The node of an operator over two nodes, simplified."""
+    """The node of an operator over nodes that stand, simplified."""
     first, second = ({"true": True, "false": False}.get(formulas[part][0]) for part in (x, y))
     if sign in ("U", "R"):
-        return formulas.find(sign, x, y) if second is None else y
+        return formulas.add(sign, x, y) if second is None else y
     if first is not None:
         return y if first == (sign == "&&") else x
     if second is not None:
         return x if second == (sign == "&&") else y
-    return x if x == y else formulas.find(sign, x, y)
+    return x if x == y else formulas.add(sign, x, y)
 
 def form(formulas, formula, keep, made):
     """The normal (keep) or negated form of a formula; those that were made are kept."""
@@ -137,17 +156,17 @@ def form_of_node(formulas, sign, a=None, b=None, keep=True, made=None):
     same, other = (lambda part: form(formulas, part, keep, made)), (lambda part: form(formulas, part, not keep, made))
     faced = (lambda joint, x, y: join(formulas, joint if keep else FACING[joint], x, y))
     if sign in ("true", "false"):
-        return formulas.find("true" if (sign == "true") == keep else "false")
+        return formulas.add("true" if (sign == "true") == keep else "false")
     if sign == "signal":
-        signal = formulas.find("signal", a)
-        return signal if keep else formulas.find("!", signal)
+        signal = formulas.add("signal", a)
+        return signal if keep else formulas.add("!", signal)
     if sign == "!":
         return other(a)
     if sign == "X":
         part = same(a)
-        return part if formulas[part][0] in ("true", "false") else formulas.find("X", part)
+        return part if formulas[part][0] in ("true", "false") else formulas.add("X", part)
     if sign in ("F", "G"):
-        return faced("U" if sign == "F" else "R", formulas.find("true" if keep == (sign == "F") else "false"), same(a))
+        return faced("U" if sign == "F" else "R", formulas.add("true" if keep == (sign == "F") else "false"), same(a))
     if sign == "->":
         return faced("||", other(a), same(b))
     if sign == "<->":
@@ -158,7 +177,7 @@ def form_of_node(formulas, sign, a=None, b=None, keep=True, made=None):
     return faced(sign, same(a), same(b))
 
 def both_forms(formulas, whole):
-    """The negated form of the whole, and the normal one, which stand in the list."""
+    """The negated form of the whole, which is added first, and the normal one."""
     return [form(formulas, whole, keep, {}) for keep in (False, True)]
 
 # ---- "Covers", "The automaton of a formula in normal form"; a set of obligations is a number with a bit for each id ----

@@ -26,7 +26,7 @@ use Rattle.solved_flat.specs.Expand.{ExpandSolveAnswers, expansion_bytes}
 use Rattle.solved_flat.specs.Expand as expand
 use Rattle.solved_flat.specs.Lasso.{IsSolveTruthOn, LassoSolveAnswers}
 use Rattle.solved_flat.specs.Lasso as lasso
-use Rattle.solved_flat.specs.Taken.{CanBeAnswered, IfRefused, IfTaken, IsTaken, IsWholly, bytes_of_taken, shift_from, shift_seen}
+use Rattle.solved_flat.specs.Taken.{CanBeAnswered, IfRefused, IfTaken, IsTaken, IsWholly, bytes_of_taken, shift_from}
 use Rattle.solved_flat.proofs.Same.{shift_known}
 
 module _ (text : List ℕ) (given : Option Kind) where

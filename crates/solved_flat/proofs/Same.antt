@@ -7,7 +7,6 @@ use Rattle.letters_and_lassos.specs.declared.kinds.Kind.TheVariants.{Mealy, Moor
 use Rattle.kind_conversion.specs.Shifts.{shift_of}
 use Rattle.tlsf_syntax.specs.Text.{Text}
 use Rattle.tlsf_reader.specs.Reads.{TreesAreDetermined}
-use Rattle.tlsf_expand.specs.FlatText.{FlatText}
 use Rattle.flat_text.specs.FlatOf.{IsFlatOf}
 use Rattle.flat_text.specs.Laws.{FlatTextsAreDetermined}
 use Rattle.solve_ground.specs.declared.texts.SolveText.{SolveText}

@@ -11,7 +11,7 @@ use Rattle.kind_conversion.specs.ShiftedForm.{shifted_form}
 use Rattle.kind_conversion.specs.Shifts.{is_shifted}
 use Rattle.tlsf_expand.specs.Expansion.{Expanded}
 use Rattle.flat_lines.specs.FlatLines.{all_names}
-use Rattle.solved_flat.specs.Shown.{ShownFormulasAreTaken, shown_name, shown_names, taken_form, takes_inputs, takes_outputs}
+use Rattle.solved_flat.specs.Shown.{ShownFormulasAreTaken, shown_name, shown_names, takes_inputs, takes_outputs}
 
 -- ---- the name of a signal
 

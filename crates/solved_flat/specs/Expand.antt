@@ -1,6 +1,6 @@
 -- The answer of `expand --solve` to a text, and with `--nodes` the list of formulas behind it (this project's own). A kind that is given stands for
 -- those that the text names.
-use Rattle.std.specs.Prelude.{◌≡◌, ℕ, zero, suc, Bool, true, false, List, [], ◌∷◌, ◌++◌, Option, None, Some, codes, decimal, length, slice_index_or}
+use Rattle.std.specs.Prelude.{◌≡◌, ℕ, zero, suc, Bool, true, false, List, [], ◌∷◌, ◌++◌, Option, codes, decimal, length, slice_index_or}
 use Rattle.letters_and_lassos.specs.declared.kinds.Kind.{Kind}
 use Rattle.spec_faults.specs.declared.code.SpecCode.{SpecCode}
 use Rattle.ltl_formula.specs.declared.nodes.FormulaId.{FormulaId}

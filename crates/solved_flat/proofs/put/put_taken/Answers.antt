@@ -1,4 +1,3 @@
-use Rattle.std.proofs.Common.{OnErr, OnOk}
 use Rattle.std_lemmas.proofs.Results.{on_err}
 use Rattle.solved_flat.specs.Taken.{list_of, sections_of}
 use Rattle.solved_flat.proofs.Nodes.{all_behind, front_behind, front_of_first}
