@@ -6,4 +6,3 @@ mod SolveLemmas
 mod RefusalLemmas
 mod RunLemmas
 mod PrintedLemmas
-mod VerifiedLemmas

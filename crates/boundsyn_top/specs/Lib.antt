@@ -9,4 +9,3 @@ pub mod Takes
 pub mod Unread
 pub mod Run
 pub mod Printed
-pub mod Verified

@@ -9,7 +9,6 @@ ghost use Rattle.boundsyn_top.specs.Faults.{RefusalsAreDetermined};
 ghost use Rattle.boundsyn_top.specs.Printed.{PrintedRunsAreAccepted};
 ghost use Rattle.boundsyn_top.specs.Run.{Asks};
 ghost use Rattle.boundsyn_top.specs.Solving.{SolveVerdictsAgree};
-ghost use Rattle.boundsyn_top.specs.Verified.{SolvedRunsAreVerified};
 ghost use Rattle.solve_ground.specs.Laws.{SolveTextsAreDetermined};
 
 use crate::run;
@@ -29,7 +28,6 @@ use std::thread::Threads;
 use time_limits::Stopwatch;
 use tlsf_reader::laws::trees_are_determined;
 use verify_answer::laws::{environments_are_determined, verifications_are_determined};
-use verify_laws::laws::accepted_are_verified;
 
 /// Nothing but its line answers the first fault of a text, or the first bad line of a list or of another file.
 pub fn refusals_are_determined()
@@ -90,13 +88,6 @@ pub fn printed_is_accepted()
 {
     answer_laws::laws::printed_is_accepted();
     answer_laws::laws::solutions_are_accepted();
-}
-
-/// What `solve` prints with status 10 or 20 for a text, `verify` verifies for it with the same kind, as a controller or as a counter-strategy.
-pub fn solutions_are_verified()
-    ensures { SolvedRunsAreVerified }
-{
-    accepted_are_verified();
 }
 
 /// Over a shelf and a sink that never fail, words that ask for something get an answer, or memory was wanted.

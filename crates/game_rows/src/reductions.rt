@@ -11,6 +11,7 @@ use machine_reductions::{Reduction, with_fewer_states};
 use solve_ground::{SolveText, solve_text};
 use spec_problems::{TextProblems, text_problems};
 use std::alloc::{AllocError, Global};
+use time_limits::NoDeadline;
 
 /// The line between a text and a circuit.
 const MARK: &[u8] = b"---- circuit\n";
@@ -122,6 +123,7 @@ fn reduced(
         maker,
         kind_told(problem, heading.slip),
         heading.steps,
+        &NoDeadline,
     )
 }
 

@@ -4,10 +4,12 @@ ghost use Rattle.program_replies.specs.Statuses.{status_number};
 ghost use Rattle.solve_answer.specs.Answer.{SolveAnswers};
 ghost use Rattle.solve_answer.specs.Parts.{AnswersEach, CanBePlayed, limits_of};
 
+use crate::deadlines::{Deadlines, seconds_for_sizes};
 use crate::discoveries::{Discovery, Found};
 use crate::documents::{strategy_document, unknown_text};
 use crate::finding::{Search, find_strategy};
 use crate::refuting::Refuting;
+use crate::remarking::Original;
 use crate::shrinking::{Plain, with_logs};
 use crate::testing::tested;
 use crate::told::wanted_memory;
@@ -52,10 +54,16 @@ pub fn solve<R: Threads + Wait + Sync, G: Gate + Sync, S: Stopwatch + Sync, L: L
 ) -> Result<ToldReply, AllocError>
     ensures { IfOk result (λ s. SolveAnswers text.now given (limits_of refuting) s.reply.bytes.items (status_number s.reply.status)) }
 {
-    let deadline = TextDeadline::begin(stopwatch, refuting.seconds);
+    let all = TextDeadline::begin(stopwatch, refuting.seconds);
+    let sizes = TextDeadline::begin(stopwatch, seconds_for_sizes(refuting.seconds));
+    let deadlines = Deadlines {
+        all: &all,
+        sizes: &sizes,
+    };
+    let original = Original { text, given };
     match solve_text(alloc, text, given) {
         Ok(known) => answer(
-            rt, alloc, &known, budget, refuting, gate, &deadline, listener,
+            rt, alloc, &known, original, budget, refuting, gate, &deadlines, listener,
         ),
         Err(fault) => Ok(ToldReply {
             reply: refusal(alloc, fault)?,
@@ -69,19 +77,20 @@ fn answer<R: Threads + Wait + Sync, G: Gate + Sync, D: Deadline + Sync, L: Liste
     rt: &R,
     alloc: Global,
     text: &SolveText,
+    original: Original<'_>,
     budget: Budget,
     refuting: Refuting,
     gate: &G,
-    deadline: &D,
+    deadlines: &Deadlines<'_, '_, D>,
     listener: &mut L,
 ) -> Result<ToldReply, AllocError>
     requires { CanBePlayed text.now }
     ensures { IfOk result (λ s. AnswersEach text.now refuting s.reply) }
 {
     listener.hear(News::Playing);
-    match find_any(rt, alloc, text, budget, refuting, gate, deadline, listener)? {
+    match find_any(rt, alloc, text, budget, refuting, gate, deadlines, listener)? {
         Found::Of(discovery) => of_strategy(
-            rt, alloc, text, discovery, refuting, gate, deadline, listener,
+            rt, alloc, text, original, discovery, refuting, gate, deadlines, listener,
         ),
         Found::Without(why, conjuncts) => unknown(alloc, text, why, conjuncts, refuting),
     }
@@ -95,19 +104,21 @@ fn find_any<R: Threads + Wait + Sync, G: Gate + Sync, D: Deadline + Sync, L: Lis
     budget: Budget,
     refuting: Refuting,
     gate: &G,
-    deadline: &D,
+    deadlines: &Deadlines<'_, '_, D>,
     listener: &mut L,
 ) -> Result<Found, AllocError>
     requires { CanBePlayed text.now }
 {
-    match find_strategy(rt, alloc, text, budget, refuting.workers, deadline)? {
+    match find_strategy(rt, alloc, text, budget, refuting.workers, deadlines.all)? {
         Search::Of(strategy, engine) => Ok(Found::Of(Discovery::new(strategy, engine))),
         Search::Without(why, conjuncts) => {
             if refuting.max == Some(0) {
                 return Ok(Found::Without(why, conjuncts));
             }
-            listener.hear(News::Searching);
-            search_sizes(rt, alloc, text, why, conjuncts, refuting, gate, deadline)
+            if !deadlines.sizes.is_over() {
+                listener.hear(News::Searching);
+            }
+            search_sizes(rt, alloc, text, why, conjuncts, refuting, gate, deadlines)
         }
     }
 }
@@ -117,10 +128,11 @@ fn of_strategy<R: Threads + Wait + Sync, G: Gate + Sync, D: Deadline + Sync, L: 
     rt: &R,
     alloc: Global,
     text: &SolveText,
+    original: Original<'_>,
     discovery: Discovery,
     refuting: Refuting,
     gate: &G,
-    deadline: &D,
+    deadlines: &Deadlines<'_, '_, D>,
     listener: &mut L,
 ) -> Result<ToldReply, AllocError>
     requires { CanBePlayed text.now }
@@ -140,15 +152,23 @@ fn of_strategy<R: Threads + Wait + Sync, G: Gate + Sync, D: Deadline + Sync, L: 
         }
     };
     if refuting.max == Some(0) {
-        let told = Told::Found(solution);
-        return Ok(ToldReply { reply, told });
+        let circuit = document.circuit.as_ref();
+        let told = original.with_remarks(alloc, solution, circuit, deadlines.all);
+        return Ok(ToldReply {
+            reply,
+            told: Told::Found(told),
+        });
     }
     listener.hear(News::Found(solution.side, solution.states));
     let plain = Plain { solution, document };
-    let longer = with_logs(rt, alloc, text, plain, below, refuting, gate, deadline);
-    let told = Told::Found(longer.solution);
+    let longer = with_logs(rt, alloc, text, plain, below, refuting, gate, deadlines);
+    let circuit = longer.circuit.as_ref();
+    let told = original.with_remarks(alloc, longer.solution, circuit, deadlines.all);
     let reply = better_of(text, refuting, longer.reply, reply);
-    Ok(ToldReply { reply, told })
+    Ok(ToldReply {
+        reply,
+        told: Told::Found(told),
+    })
 }
 
 /// The better reply to a text, where there is one, or the one that there is.

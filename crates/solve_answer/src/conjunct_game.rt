@@ -1,6 +1,6 @@
 //! The game of a text's conjuncts. Nothing is said of what is found: it is tested.
 
-use crate::finding::{Annotated, Strategy, annotated};
+use crate::finding::{Printable, Strategy, annotated};
 use crate::reducing::made_small;
 use crate::told::conjunct_end;
 use outcome_news::{ConjunctEnd, Withheld};
@@ -69,11 +69,11 @@ fn of_win<D: Deadline>(
     deadline: &D,
 ) -> Result<ByConjuncts, AllocError> {
     match annotated(alloc, text, found.side, found.circuit, deadline)? {
-        Annotated::Of(strategy) => {
+        Printable::Of(strategy) => {
             let small = made_small(alloc, text, strategy, deadline);
             Ok(ByConjuncts::Of(small))
         }
-        Annotated::Withheld(side, why) => {
+        Printable::Withheld(side, why) => {
             Ok(ByConjuncts::Without(ConjunctEnd::Withheld(side, why)))
         }
     }

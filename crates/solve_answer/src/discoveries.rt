@@ -36,8 +36,9 @@ impl Discovery {
             ended: Ended::AllRefuted,
         };
         Discovery {
+            solution: solution_of(&strategy, Engine::SizeSearch),
+            strategy,
             below: Some(below),
-            ..Discovery::new(strategy, Engine::SizeSearch)
         }
     }
 }

@@ -133,8 +133,8 @@ fn strategy_in<D: Deadline>(
     deadline: &D,
 ) -> Result<ByGames, AllocError> {
     match annotated(alloc, text, found.side, found.circuit, deadline)? {
-        Annotated::Of(strategy) => Ok(ByGames::Of(made_small(alloc, text, strategy, deadline))),
-        Annotated::Withheld(side, why) => Ok(ByGames::Without(Unsolved::Withheld(side, why))),
+        Printable::Of(strategy) => Ok(ByGames::Of(made_small(alloc, text, strategy, deadline))),
+        Printable::Withheld(side, why) => Ok(ByGames::Without(Unsolved::Withheld(side, why))),
     }
 }
 
@@ -221,7 +221,7 @@ fn automaton(
 
 /// A strategy, or why what a side wins with isn't printed.
 #[derive(Drop)]
-pub(crate) enum Annotated {
+pub(crate) enum Printable {
     Of(Strategy),
     Withheld(Side, Withheld),
 }
@@ -233,18 +233,18 @@ pub(crate) fn annotated<D: Deadline>(
     side: Side,
     circuit: Circuit,
     deadline: &D,
-) -> Result<Annotated, AllocError> {
+) -> Result<Printable, AllocError> {
     if circuit.inputs.len() > MOST_INPUTS {
-        return Ok(Annotated::Withheld(side, Withheld::TooManyStates));
+        return Ok(Printable::Withheld(side, Withheld::TooManyStates));
     }
     match annotation_of(alloc, maker(text, side, &circuit), deadline)? {
         Made::Lines(annotation) => counted(alloc, side, circuit, annotation, deadline),
-        Made::LetsThrough => Ok(Annotated::Withheld(side, Withheld::Loses)),
+        Made::LetsThrough => Ok(Printable::Withheld(side, Withheld::Loses)),
         Made::TooLarge(limit) => {
             let why = Withheld::AnnotationTooLarge(limit_of(limit));
-            Ok(Annotated::Withheld(side, why))
+            Ok(Printable::Withheld(side, why))
         }
-        Made::NoTime => Ok(Annotated::Withheld(side, Withheld::Time)),
+        Made::NoTime => Ok(Printable::Withheld(side, Withheld::Time)),
     }
 }
 
@@ -255,16 +255,16 @@ fn counted<D: Deadline>(
     circuit: Circuit,
     annotation: Vec<u8>,
     deadline: &D,
-) -> Result<Annotated, AllocError> {
+) -> Result<Printable, AllocError> {
     match states_of(alloc, &circuit, deadline) {
-        Ok(states) => Ok(Annotated::Of(Strategy {
+        Ok(states) => Ok(Printable::Of(Strategy {
             side,
             states,
             circuit,
             annotation,
         })),
-        Err(Uncounted::TooMany) => Ok(Annotated::Withheld(side, Withheld::TooManyStates)),
-        Err(Uncounted::Time) => Ok(Annotated::Withheld(side, Withheld::Time)),
+        Err(Uncounted::TooMany) => Ok(Printable::Withheld(side, Withheld::TooManyStates)),
+        Err(Uncounted::Time) => Ok(Printable::Withheld(side, Withheld::Time)),
         Err(Uncounted::NoMemory) => Err(AllocError),
     }
 }

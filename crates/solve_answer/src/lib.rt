@@ -8,11 +8,13 @@
 
 mod answering;
 mod conjunct_game;
+mod deadlines;
 mod discoveries;
 mod documents;
 mod finding;
 mod reducing;
 mod refuting;
+mod remarking;
 mod shrinking;
 mod testing;
 mod told;

@@ -1,6 +1,6 @@
 //! A strategy whose machine and circuit are made smaller. Nothing is said of what is found: it is tested.
 
-use crate::finding::{Annotated, Strategy, annotated, maker};
+use crate::finding::{Printable, Strategy, annotated, maker};
 use game_machine::{GivenTable, table_circuit};
 use letters_and_lassos::{Kind, Side};
 use machine_model::Row;
@@ -41,7 +41,7 @@ pub(crate) fn with_fewer_gates<D: Deadline>(
     let effort = Effort { steps: GATE_STEPS };
     match small_circuit(alloc, &strategy.circuit, side, text.kind, effort, deadline) {
         Ok(Some(circuit)) => match annotated(alloc, text, side, circuit, deadline) {
-            Ok(Annotated::Of(smaller)) if smaller.states == strategy.states => smaller,
+            Ok(Printable::Of(smaller)) if smaller.states == strategy.states => smaller,
             _ => strategy,
         },
         _ => strategy,
@@ -109,7 +109,7 @@ pub(crate) fn strategy_of<D: Deadline>(
         return Ok(None);
     };
     match annotated(alloc, text, side, circuit, deadline)? {
-        Annotated::Of(strategy) => Ok(Some(strategy)),
-        Annotated::Withheld(..) => Ok(None),
+        Printable::Of(strategy) => Ok(Some(strategy)),
+        Printable::Withheld(..) => Ok(None),
     }
 }

@@ -2,12 +2,14 @@
 ghost use Rattle.std.specs.Prelude.{IfOk, IfSome};
 ghost use Rattle.solve_answer.specs.Parts.{AnswersEach, CanBePlayed};
 
+use crate::deadlines::Deadlines;
 use crate::documents::strategy_document;
 use crate::finding::Strategy;
 use crate::reducing::{strategy_of, with_fewer_gates};
 use crate::refuting::{Refuting, refuted, short_logs};
 use crate::testing::tested;
 use crate::told::{nothing, refuting_end, so_many, solution_of};
+use aiger_text::Circuit;
 use input_output::Gate;
 use letter_search::{Ended, Refutations};
 use letters_and_lassos::Side;
@@ -33,17 +35,20 @@ pub(crate) struct Longer {
     /// None where the document without logs is all that there is.
     pub(crate) reply: Option<Reply>,
     pub(crate) solution: Solution,
+    /// The circuit that is printed, unless memory ran out.
+    pub(crate) circuit: Option<Circuit>,
 }
 
 impl Longer {
     /// No more than before, and why.
-    fn nothing(solution: Solution, why: RefutingEnd) -> Longer {
+    fn nothing(solution: Solution, why: RefutingEnd, circuit: Option<Circuit>) -> Longer {
         Longer {
             reply: None,
             solution: Solution {
                 refuted: nothing(why),
                 ..solution
             },
+            circuit,
         }
     }
 }
@@ -57,15 +62,15 @@ pub(crate) fn with_logs<R: Threads + Wait + Sync, G: Gate + Sync, D: Deadline + 
     below: Option<Refutations>,
     refuting: Refuting,
     gate: &G,
-    deadline: &D,
+    deadlines: &Deadlines<'_, '_, D>,
 ) -> Longer
     requires { CanBePlayed text.now }
     ensures { IfSome result.reply (AnswersEach text.now refuting) }
 {
     let solution = plain.solution;
-    match make_longer(rt, alloc, text, plain, below, refuting, gate, deadline) {
+    match make_longer(rt, alloc, text, plain, below, refuting, gate, deadlines) {
         Ok(longer) => longer,
-        Err(_) => Longer::nothing(solution, RefutingEnd::NoMemory),
+        Err(_) => Longer::nothing(solution, RefutingEnd::NoMemory, None),
     }
 }
 
@@ -77,7 +82,7 @@ fn make_longer<R: Threads + Wait + Sync, G: Gate + Sync, D: Deadline + Sync>(
     below: Option<Refutations>,
     refuting: Refuting,
     gate: &G,
-    deadline: &D,
+    deadlines: &Deadlines<'_, '_, D>,
 ) -> Result<Longer, AllocError>
     requires { CanBePlayed text.now }
     ensures { IfOk result (λ l. IfSome l.reply (AnswersEach text.now refuting)) }
@@ -85,9 +90,18 @@ fn make_longer<R: Threads + Wait + Sync, G: Gate + Sync, D: Deadline + Sync>(
     let Solution { side, states, .. } = plain.solution;
     let below = match below {
         Some(below) => below,
-        None => refuted(rt, alloc, text, side, states, refuting, gate, deadline)?,
+        None => refuted(
+            rt,
+            alloc,
+            text,
+            side,
+            states,
+            refuting,
+            gate,
+            deadlines.sizes,
+        )?,
     };
-    let smaller = smaller_strategy(alloc, text, side, &below.ended, deadline)?;
+    let smaller = smaller_strategy(alloc, text, side, &below.ended, deadlines.all)?;
     let end = refuting_end(&below.ended);
     let logs = short_logs(below.logs, refuting);
     match smaller {
@@ -118,6 +132,7 @@ fn shrunk(
         Ok(reply) => Ok(Longer {
             reply: Some(reply),
             solution,
+            circuit: document.circuit,
         }),
         Err(_) => kept(
             alloc,
@@ -145,7 +160,7 @@ fn kept(
     let solution = plain.solution;
     let sizes = logs.len();
     if sizes == 0 {
-        return Ok(Longer::nothing(solution, end));
+        return Ok(Longer::nothing(solution, end, plain.document.circuit));
     }
     let mut document = plain.document;
     document.logs = logs;
@@ -156,8 +171,12 @@ fn kept(
                 refuted: so_many(sizes, end),
                 ..solution
             },
+            circuit: document.circuit,
         }),
-        Err(line) => Ok(Longer::nothing(solution, RefutingEnd::BadLine(line))),
+        Err(line) => {
+            let why = RefutingEnd::BadLine(line);
+            Ok(Longer::nothing(solution, why, document.circuit))
+        }
     }
 }
 

@@ -1,6 +1,7 @@
 //! The sizes of a side, or of both, where the games give nothing to print.
 ghost use Rattle.solve_answer.specs.Parts.{CanBePlayed};
 
+use crate::deadlines::Deadlines;
 use crate::discoveries::{Discovery, Found};
 use crate::refuting::{Refuting, ground_of, refuted};
 use crate::shrinking::smaller_strategy;
@@ -34,7 +35,7 @@ pub(crate) fn search_sizes<R: Threads + Wait + Sync, G: Gate + Sync, D: Deadline
     conjuncts: ConjunctEnd,
     refuting: Refuting,
     gate: &G,
-    deadline: &D,
+    deadlines: &Deadlines<'_, '_, D>,
 ) -> Result<Found, AllocError>
     requires { CanBePlayed text.now }
 {
@@ -49,11 +50,11 @@ pub(crate) fn search_sizes<R: Threads + Wait + Sync, G: Gate + Sync, D: Deadline
                 environment,
                 refuting,
                 gate,
-                deadline,
+                deadlines,
             )?
         }
         Unsolved::Withheld(side, _) => {
-            match of_winner(rt, alloc, text, side, refuting, gate, deadline)? {
+            match of_winner(rt, alloc, text, side, refuting, gate, deadlines)? {
                 Some(discovery) => Searched::Of(discovery),
                 None => Searched::Without(why),
             }
@@ -80,15 +81,24 @@ fn of_winner<R: Threads + Wait + Sync, G: Gate + Sync, D: Deadline + Sync>(
     side: Side,
     refuting: Refuting,
     gate: &G,
-    deadline: &D,
+    deadlines: &Deadlines<'_, '_, D>,
 ) -> Result<Option<Discovery>, AllocError>
     requires { CanBePlayed text.now }
 {
-    let found = refuted(rt, alloc, text, side, NO_SIZE, refuting, gate, deadline)?;
+    let found = refuted(
+        rt,
+        alloc,
+        text,
+        side,
+        NO_SIZE,
+        refuting,
+        gate,
+        deadlines.sizes,
+    )?;
     if let Ended::NoMemory(_) = found.ended {
         return Err(AllocError);
     }
-    match smaller_strategy(alloc, text, side, &found.ended, deadline)? {
+    match smaller_strategy(alloc, text, side, &found.ended, deadlines.all)? {
         Some(strategy) => Ok(Some(Discovery::least(strategy, found))),
         None => Ok(None),
     }
@@ -103,23 +113,23 @@ fn of_both<R: Threads + Wait + Sync, G: Gate + Sync, D: Deadline + Sync>(
     environment: NotWon,
     refuting: Refuting,
     gate: &G,
-    deadline: &D,
+    deadlines: &Deadlines<'_, '_, D>,
 ) -> Result<Searched, AllocError>
     requires { CanBePlayed text.now }
 {
-    if deadline.is_over() {
+    if deadlines.sizes.is_over() {
         let none = nothing(RefutingEnd::Time);
         return Ok(Searched::Without(neither(system, none, environment, none)));
     }
-    let both = tried(rt, alloc, text, refuting, gate, deadline)?;
+    let both = tried(rt, alloc, text, refuting, gate, deadlines.sizes)?;
     let first = refuted_in(&both.system);
     let second = refuted_in(&both.environment);
-    let by_system = smaller_strategy(alloc, text, Side::System, &both.system.ended, deadline)?;
+    let by_system = smaller_strategy(alloc, text, Side::System, &both.system.ended, deadlines.all)?;
     if let Some(strategy) = by_system {
         return Ok(Searched::Of(Discovery::least(strategy, both.system)));
     }
     let ended = &both.environment.ended;
-    let by_other = smaller_strategy(alloc, text, Side::Environment, ended, deadline)?;
+    let by_other = smaller_strategy(alloc, text, Side::Environment, ended, deadlines.all)?;
     if let Some(strategy) = by_other {
         return Ok(Searched::Of(Discovery::least(strategy, both.environment)));
     }

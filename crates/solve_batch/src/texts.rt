@@ -14,18 +14,19 @@ use std::alloc::{AllocError, Global};
 use std::marker::Model;
 use std::sync::Wait;
 use std::thread::Threads;
-use time_limits::Stopwatch;
+use time_limits::SharedTime;
 
-/// The job of solving texts, each by the worker that takes it alone. A contract sees the kind that is given, and how far documents may refute.
+/// The job of solving texts, each by the worker that takes it alone, within its own time. A contract sees the kind that is given, and how far
+/// documents may refute.
 #[derive(Drop)]
-pub struct Solving<'a, S: Stopwatch> {
+pub struct Solving<'a> {
     alloc: Global,
     given: Option<Kind>,
     refuting: Refuting,
-    stopwatch: &'a S,
+    time: &'a SharedTime,
 }
 
-impl<S: Stopwatch> Model for Solving<'_, S> {
+impl Model for Solving<'_> {
     ghost use Rattle.solve_answer.specs.Parts.{limits_of};
     ghost use Rattle.solve_batch.specs.SolvedBatch.{AskedOfEach};
 
@@ -34,14 +35,14 @@ impl<S: Stopwatch> Model for Solving<'_, S> {
     ghost view = { λ job. record { given = job.given; limits = limits_of job.refuting } };
 }
 
-impl<'a, S: Stopwatch + Sync> Solving<'a, S> {
+impl<'a> Solving<'a> {
     /// With a kind in place of the texts' own, if one is given.
     pub fn new(
         alloc: Global,
         given: Option<Kind>,
         refuting: Refuting,
-        stopwatch: &'a S,
-    ) -> Solving<'a, S>
+        time: &'a SharedTime,
+    ) -> Solving<'a>
         ensures { result ≡ record { given = given; limits = limits_of refuting } }
     {
         Solving {
@@ -51,7 +52,7 @@ impl<'a, S: Stopwatch + Sync> Solving<'a, S> {
                 workers: 1,
                 ..refuting
             },
-            stopwatch,
+            time,
         }
     }
 
@@ -67,13 +68,13 @@ impl<'a, S: Stopwatch + Sync> Solving<'a, S> {
             GAME_BUDGET,
             self.refuting,
             &OpenGate,
-            self.stopwatch,
+            self.time,
             &mut NoListener,
         )
     }
 }
 
-impl<S: Stopwatch + Sync> Job for Solving<'_, S> {
+impl Job for Solving<'_> {
     ghost use Rattle.solve_batch.specs.SolvedBatch.{IsSolvedReply};
 
     type Task = TakenText;

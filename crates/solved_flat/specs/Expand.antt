@@ -1,41 +1,20 @@
 -- The answer of `expand --solve` to a text, and with `--nodes` the list of formulas behind it (this project's own). A kind that is given stands for
 -- those that the text names.
-use Rattle.std.specs.Prelude.{◌≡◌, ℕ, zero, suc, Bool, List, [], ◌∷◌, ◌++◌, Option, None, Some, codes, decimal, flat_map, length, slice_index_or, if◌then◌else◌}
+use Rattle.std.specs.Prelude.{◌≡◌, ℕ, zero, suc, Bool, true, false, List, [], ◌∷◌, ◌++◌, Option, codes, decimal, length, slice_index_or}
 use Rattle.letters_and_lassos.specs.declared.kinds.Kind.{Kind}
 use Rattle.spec_faults.specs.declared.code.SpecCode.{SpecCode}
 use Rattle.ltl_formula.specs.declared.nodes.FormulaId.{FormulaId}
 use Rattle.ltl_formula.specs.declared.nodes.Node.{Node}
 use Rattle.ltl_formula.specs.declared.nodes.Node.TheVariants.{True, False, Signal, Not, Next, Finally, Globally, And, Or, Implies, Equiv, Until, Release, WeakUntil}
-use Rattle.ltl_formula.specs.Nodes.{node_at, tree_at}
-use Rattle.ltl_formula.specs.Text.{formula_text}
-use Rattle.ltl_formula.specs.Tree.{Tree}
+use Rattle.ltl_formula.specs.Nodes.{node_at}
 use Rattle.kind_conversion.specs.declared.shifts.Shift.{Shift}
-use Rattle.kind_conversion.specs.ShiftedForm.{shifted_form}
 use Rattle.tlsf_expand.specs.FlatText.{FlatText}
-use Rattle.flat_lines.specs.declared.lines.Line.{Line}
-use Rattle.flat_lines.specs.declared.lines.Line.TheVariants.{Formula}
-use Rattle.flat_lines.specs.FlatLines.{all_names, line_by, lines_in, section_word}
+use Rattle.flat_lines.specs.FlatLines.{all_names, flat_bytes_by}
 use Rattle.solve_ground.specs.declared.texts.SolveText.{SolveText}
 use Rattle.solve_ground.specs.SolveText.{IsSolveFault, IsSolveText}
 use Rattle.solve_ground.specs.Taken.{taken_shift}
 use Rattle.program_replies.specs.Lines.{refusal_line}
-
--- ---- the flat sections
-
--- a formula as it is taken: as it is written, or with X before each signal that is shifted
-abbrev pub taken_form : Option Shift → ℕ → Tree → Tree
-taken_form None inputs f = f
-taken_form (Some shift) inputs f = shifted_form shift inputs f
-
--- a line of `expand`, with the formula as it is taken
-abbrev pub taken_line : Option Shift → FlatText → Line → List ℕ
-taken_line shift flat (Formula section id) =
-    section_word section ++ 32 ∷ formula_text (all_names flat.expanded) (taken_form shift (length flat.expanded.inputs) (tree_at flat.formulas id))
-taken_line shift flat line = line_by (all_names flat.expanded) flat line
-
--- the flat text as it is taken, written out
-abbrev pub taken_bytes : Option Shift → FlatText → List ℕ
-taken_bytes shift flat = flat_map (λ line. taken_line shift flat line ++ 10 ∷ []) (lines_in flat.expanded)
+use Rattle.solved_flat.specs.Shown.{shown_names}
 
 -- ---- the list of formulas
 
@@ -77,9 +56,14 @@ node_lines names nodes = first_node_lines names nodes (length nodes)
 
 -- ---- the answer
 
--- the flat text as it is taken, and behind it the list of formulas where it is asked for
+-- the list of formulas, where it is asked for
+abbrev pub listed : Bool → FlatText → List Node → List ℕ
+listed true flat nodes = node_lines (all_names flat.expanded) nodes
+listed false flat nodes = []
+
+-- the flat text, with X before each signal that is shifted, and behind it the list of formulas where it is asked for
 abbrev pub expansion_bytes : Bool → Option Shift → FlatText → List Node → List ℕ
-expansion_bytes with_nodes shift flat nodes = taken_bytes shift flat ++ (if with_nodes then node_lines (all_names flat.expanded) nodes else [])
+expansion_bytes with_nodes shift flat nodes = flat_bytes_by (shown_names shift flat.expanded) flat ++ listed with_nodes flat nodes
 
 -- The bytes and the status: the line of the text's first fault as `solve` takes it, or the text as it is taken, written out flat.
 pub data ExpandSolveAnswers (text : List ℕ) (given : Option Kind) (with_nodes : Bool) (bytes : List ℕ) (status : ℕ) : Type 0 where

@@ -6,14 +6,15 @@ use Rattle.ltl_formula.specs.Nodes.{IsNodeIn}
 use Rattle.kind_conversion.specs.declared.shifts.Shift.{Shift}
 use Rattle.kind_conversion.specs.Shifts.{shift_of}
 use Rattle.tlsf_expand.specs.FlatText.{spec_seen}
-use Rattle.flat_lines.specs.FlatLines.{CanBeWritten}
+use Rattle.flat_lines.specs.FlatLines.{CanBeWritten, flat_bytes_by}
 use Rattle.program_replies.specs.declared.replies.Reply.{Reply}
 use Rattle.solve_ground.specs.SolveText.{IsSolveText}
 use Rattle.solve_ground.specs.Taken.{taken_shift}
 use Rattle.solved_flat.specs.declared.texts.TakenText.{TakenText}
 use Rattle.solved_flat.specs.declared.texts.Taking.{Taking}
 use Rattle.solved_flat.specs.declared.texts.Taking.TheVariants.{Taken, Refused}
-use Rattle.solved_flat.specs.Expand.{expansion_bytes}
+use Rattle.solved_flat.specs.Shown.{shown_names}
+use Rattle.solved_flat.specs.Expand.{expansion_bytes, listed}
 
 -- what is shifted of a text of these machines, where it was converted from this kind
 abbrev pub shift_from : Option Kind → Kind → Option Shift
@@ -34,6 +35,14 @@ pub record CanBeAnswered (t : TakenText) : Type 0 where
   pub writable : CanBeWritten (spec_seen t.spec)
   pub few : length t.spec.inputs.items + length t.spec.outputs.items ≤ LARGE_LIMITS.all_signals
   pub stands : IsNodeIn t.known.formulas t.known.normal
+
+-- its flat sections, with X before each signal that is shifted
+abbrev pub sections_of : TakenText → List ℕ
+sections_of t = flat_bytes_by (shown_names (shift_seen t) (spec_seen t.spec).expanded) (spec_seen t.spec)
+
+-- its list of formulas, where it is asked for
+abbrev pub list_of : Bool → TakenText → List ℕ
+list_of with_nodes t = listed with_nodes (spec_seen t.spec) t.known.formulas
 
 -- the bytes with which such a text answers `expand --solve`
 abbrev pub bytes_of_taken : Bool → TakenText → List ℕ

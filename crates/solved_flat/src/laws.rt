@@ -1,5 +1,6 @@
 //! Laws of the answers, by which each comes exactly where it is due.
 ghost use Rattle.solved_flat.specs.Laws.{ExpandSolveAnswersAreDue, LassoSolveAnswersAreDue};
+ghost use Rattle.solved_flat.specs.Shown.{ShownFormulasAreTaken};
 
 use flat_text::laws::flat_texts_are_determined;
 use lasso_word::laws::readings_are_apart;
@@ -26,3 +27,8 @@ pub fn lasso_solve_answers_are_due()
     readings_are_apart();
     trees_are_determined();
 }
+
+/// What is written of a formula is the formula as it is taken: in its shifted form, where the text is converted.
+pub fn shown_formulas_are_taken()
+    ensures { ShownFormulasAreTaken }
+{}

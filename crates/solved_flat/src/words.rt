@@ -15,7 +15,11 @@ use std::alloc::{AllocError, Global};
 
 /// Whether a text as `solve` takes it is true on the lasso that a word states over its signals: the line `true` or `false`, or the line with the number
 /// of the word's first bad line.
-pub fn lasso_solve_answer(alloc: Global, taken: &TakenText, word: &[u8]) -> Result<Reply, AllocError>
+pub fn lasso_solve_answer(
+    alloc: Global,
+    taken: &TakenText,
+    word: &[u8],
+) -> Result<Reply, AllocError>
     requires { CanBeAnswered taken.now }
     ensures { (text : List ℕ) (given : Maybe Kind) → IsTaken text given taken.now → IfOk result (λ r. LassoSolveAnswers text given word.now r.bytes.items (status_number r.status)) }
 {

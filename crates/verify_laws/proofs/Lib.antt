@@ -1,4 +1,0 @@
-pub mod Skipping
-pub mod Headers
-pub mod Moving
-pub mod Verified
