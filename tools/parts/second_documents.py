@@ -44,16 +44,6 @@ def solved(program, folder):
         yield from ((text, [it for it in dict.fromkeys(documents) if not it.startswith(b"words refused")]) for text in texts)
 
 
-def flat_of(program, spec, text):
-    """What `expand` writes of a text where its SEMANTICS is its TARGET, too; its TARGET; and the numbers of its typed inputs and outputs."""
-    told = re.sub(r"//.*", "", text)
-    semantics, target = (re.search(word + r":[^}]*?\b(Mealy|Moore)\b", told)[1] for word in ("SEMANTICS", "TARGET"))
-    parts = (re.search(word + r"\s*\{([^}]*)\}", told) for word in ("INPUTS", "OUTPUTS"))
-    typed = tuple(len(re.findall(r"[\w@']+\s+[\w@']+\s*;", part[1])) if part else 0 for part in parts)
-    _ = spec.write_text(re.sub(r"(TARGET:\s*)\w+", r"\g<1>" + semantics, text), encoding="utf-8")
-    return said(program, "expand", spec).decode(), target, typed
-
-
 def said(*words):
     return subprocess.run(words, stdin=subprocess.DEVNULL, stdout=subprocess.PIPE, stderr=subprocess.DEVNULL, check=False).stdout
 

@@ -4,48 +4,51 @@ import functools
 import re
 
 MOST_NODES, MOST_STATES, MOST_EDGES, MOST_LEAVES = 1024, 2000, 200_000, 100_000
+PARTS = {"true": 0, "false": 0, **dict.fromkeys(("signal", "!", "X", "F", "G"), 1), **dict.fromkeys(("&&", "||", "->", "<->", "U", "R", "W"), 2)}
 
 class TextFault(Exception):
-    """The text has no automata: the line that tells it."""
+    """The text isn't taken: the line that tells it."""
 
-# ---- "Signals and flat sections", "What `expand` writes" ----
+class WrongAnswer(Exception):
+    """What boundsyn says of a text is missing, or contradicts itself."""
+
+# ---- "Signals and flat sections", "What `expand` writes", "What `expand --solve` writes" ----
 
 class Formulas(list):
     """The list of formulas: different nodes (sign, part ..), each behind its parts; a signal is ("signal", number)."""
     __hash__ = object.__hash__
 
-    def __init__(self, most=MOST_NODES):
+    def __init__(self, rows, signals):
         super().__init__()
-        self.ids, self.most = {}, most
-
-    def add(self, *node):
-        if node not in self.ids:
-            if len(self) == self.most:
-                raise TextFault("refused 14 TooManyNodes at 0")
-            self.ids[node] = len(self)
+        self.ids = {}
+        for at, (mark, place, sign, *parts) in enumerate(row.split(" ") for row in rows):
+            node = (sign, signals[parts[0]]) if sign == "signal" else (sign, *map(int, parts))
+            is_next = mark == "node" and int(place) == at and len(parts) == PARTS[sign] and node not in self.ids
+            if not is_next or (sign != "signal" and any(part >= at for part in node[1:])):
+                raise WrongAnswer(f"the line `{mark} {place} {sign}` isn't that of a new node of id {at} over nodes before it")
+            self.ids[node] = at
             self.append(node)
+
+    def find(self, *node):
+        """The id of a node, which stands in the list."""
+        if node not in self.ids:
+            raise WrongAnswer(f"the list of formulas lacks the node {node}")
         return self.ids[node]
 
     def read(self, tokens, signals):
-        """The formula at the end of the tokens, which stand backwards: nodes from left to right, parts before wholes."""
+        """The formula at the end of the tokens, which stand backwards."""
         token = tokens.pop()
         if token == "!":
-            return self.add("!", self.read(tokens, signals))
+            return self.find("!", self.read(tokens, signals))
         if token != "(":
-            return self.add(token) if token in ("true", "false") else self.add("signal", signals[token])
+            return self.find(token) if token in ("true", "false") else self.find("signal", signals[token])
         if tokens[-1] in ("X", "F", "G"):
-            made = self.add(tokens.pop(), self.read(tokens, signals))
+            found = self.find(tokens.pop(), self.read(tokens, signals))
         else:
-            made = self.read_joined(tokens, signals)
+            left, sign = self.read(tokens, signals), tokens.pop()
+            found = self.find(sign, left, self.read(tokens, signals))
         tokens.pop()
-        return made
-
-    def read_joined(self, tokens, signals):
-        """An operator over two formulas. A truth on the left becomes a node behind those of what stands on the right."""
-        truth = tokens.pop() if tokens[-1] in ("true", "false") else None
-        left, sign = None if truth else self.read(tokens, signals), tokens.pop()
-        right = self.read(tokens, signals)
-        return self.add(sign, self.add(truth) if truth else left, right)
+        return found
 
     def parts_of(self, formula):
         sign, *parts = self[formula]
@@ -70,65 +73,59 @@ class Formulas(list):
     def untils(self, formula):
         return sorted(at for at in self.occurring(formula) if self[at][0] == "U")
 
-def whole_of(add, sections, is_strict):
-    """The formula of the whole, its nodes in the order that the table of semantics has."""
+def whole_of(node, sections, is_strict):
+    """The formula of the whole, over those of the sections."""
     def part(name):
-        return functools.reduce(lambda x, y: add("&&", x, y), sections.get(name) or [add("true")])
+        return functools.reduce(lambda x, y: node("&&", x, y), sections.get(name) or [node("true")])
     initially, preset = part("initially"), part("preset")
     if is_strict:
         asserted, required = part("assert"), part("require")
-        preset = add("&&", preset, add("W", asserted, add("!", required)))
-        assumed = add("&&", add("G", required), part("assume"))
+        preset = node("&&", preset, node("W", asserted, node("!", required)))
+        assumed = node("&&", node("G", required), part("assume"))
         wanted = part("guarantee")
     else:
-        assumed = add("&&", add("G", part("require")), part("assume"))
-        wanted = add("&&", add("G", part("assert")), part("guarantee"))
-    return add("->", initially, add("&&", preset, add("->", assumed, wanted)))
+        assumed = node("&&", node("G", part("require")), part("assume"))
+        wanted = node("&&", node("G", part("assert")), part("guarantee"))
+    return node("->", initially, node("&&", preset, node("->", assumed, wanted)))
 
 class Flat:
-    """What `expand` writes, with a list of at most so many formulas and the formula of the whole. Of the lines `require` and `assert` so many, the last
-    ones, are of typed inputs and outputs."""
-    def __init__(self, text, most=MOST_NODES, typed=(0, 0)):
+    """What `expand --solve --nodes` writes: names, the kind, the list of formulas, and the formula of the whole, which is found in it."""
+    def __init__(self, text):
         kind, inputs, outputs, *lines = text.splitlines()
         self.inputs, self.outputs, self.kind = inputs.split(" ")[1:], outputs.split(" ")[1:], kind.split(" ")[1]
-        self.formulas, sections = Formulas(most), {}
         signals = {name: at for at, name in enumerate(self.inputs + self.outputs)}
-        for section, formula in self.in_order(lines, dict(zip(("require", "assert"), typed))):
-            tokens = re.findall(r"[()!]|[^ ()!]+", formula)[::-1]
-            sections.setdefault(section, []).append(self.formulas.read(tokens, signals))
-        self.whole = whole_of(self.formulas.add, sections, kind.endswith(" strict"))
+        self.formulas = Formulas([line for line in lines if line.startswith("node ")], signals)
+        self.lines, sections = [line for line in lines if not line.startswith("node ")], {}
+        for section, formula in (line.split(" ", 1) for line in self.lines):
+            sections.setdefault(section, []).append(self.formulas.read(tokens_of(formula)[::-1], signals))
+        self.whole = whole_of(self.formulas.find, sections, kind.endswith(" strict"))
 
-    def in_order(self, lines, typed):
-        """The sections and formulas of the lines in the order in which they are made: those that are added for typed signals behind all others."""
-        split = [line.split(" ", 1) for line in lines]
-        last = {section: [at for at, (it, _) in enumerate(split) if it == section][-count:] for section, count in typed.items() if count}
-        added = [at for numbers in last.values() for at in numbers]
-        return [split[at] for at in [*(at for at in range(len(split)) if at not in added), *added]]
+def tokens_of(formula):
+    return re.findall(r"[()!]|[^ ()!]+", formula)
 
 # ---- "Kinds that differ" ----
 
-def converted(formulas, whole, shifted):
-    """The list made anew, an X before each of these signals, and the whole over it."""
-    made, forms = Formulas(formulas.most), []
-    for sign, *parts in formulas:
-        node = made.add(sign, *(parts if sign == "signal" else (forms[part] for part in parts)))
-        forms.append(made.add("X", node) if sign == "signal" and parts[0] in shifted else node)
-    return made, forms[whole]
+def is_conversion(plain, shifted, names):
+    """Whether the sections of the one text are those of the other with X before each signal of these names."""
+    def with_next(line):
+        section, formula = line.split(" ", 1)
+        return [section, *(it for token in tokens_of(formula) for it in (("(", "X", token, ")") if token in names else (token,)))]
+    return [[line.split(" ", 1)[0], *tokens_of(line.split(" ", 1)[1])] for line in shifted.lines] == [with_next(line) for line in plain.lines]
 
 # ---- "Normal forms" ----
 
 FACING = {"&&": "||", "||": "&&", "U": "R", "R": "U"}
 
 def join(formulas, sign, x, y):
-    """The node of an operator over nodes that stand, simplified."""
+    """The node of an operator over two nodes, simplified."""
     first, second = ({"true": True, "false": False}.get(formulas[part][0]) for part in (x, y))
     if sign in ("U", "R"):
-        return formulas.add(sign, x, y) if second is None else y
+        return formulas.find(sign, x, y) if second is None else y
     if first is not None:
         return y if first == (sign == "&&") else x
     if second is not None:
         return x if second == (sign == "&&") else y
-    return x if x == y else formulas.add(sign, x, y)
+    return x if x == y else formulas.find(sign, x, y)
 
 def form(formulas, formula, keep, made):
     """The normal (keep) or negated form of a formula; those that were made are kept."""
@@ -140,17 +137,17 @@ def form_of_node(formulas, sign, a=None, b=None, keep=True, made=None):
     same, other = (lambda part: form(formulas, part, keep, made)), (lambda part: form(formulas, part, not keep, made))
     faced = (lambda joint, x, y: join(formulas, joint if keep else FACING[joint], x, y))
     if sign in ("true", "false"):
-        return formulas.add("true" if (sign == "true") == keep else "false")
+        return formulas.find("true" if (sign == "true") == keep else "false")
     if sign == "signal":
-        signal = formulas.add("signal", a)
-        return signal if keep else formulas.add("!", signal)
+        signal = formulas.find("signal", a)
+        return signal if keep else formulas.find("!", signal)
     if sign == "!":
         return other(a)
     if sign == "X":
         part = same(a)
-        return part if formulas[part][0] in ("true", "false") else formulas.add("X", part)
+        return part if formulas[part][0] in ("true", "false") else formulas.find("X", part)
     if sign in ("F", "G"):
-        return faced("U" if sign == "F" else "R", formulas.add("true" if keep == (sign == "F") else "false"), same(a))
+        return faced("U" if sign == "F" else "R", formulas.find("true" if keep == (sign == "F") else "false"), same(a))
     if sign == "->":
         return faced("||", other(a), same(b))
     if sign == "<->":
@@ -161,7 +158,7 @@ def form_of_node(formulas, sign, a=None, b=None, keep=True, made=None):
     return faced(sign, same(a), same(b))
 
 def both_forms(formulas, whole):
-    """The negated form of the whole, which is added first, and the normal one."""
+    """The negated form of the whole, and the normal one, which stand in the list."""
     return [form(formulas, whole, keep, {}) for keep in (False, True)]
 
 # ---- "Covers", "The automaton of a formula in normal form"; a set of obligations is a number with a bit for each id ----
