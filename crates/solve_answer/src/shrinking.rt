@@ -39,8 +39,8 @@ pub(crate) struct Longer {
     pub(crate) circuit: Option<Circuit>,
 }
 
-/// What is told where nothing more is said than before, and why.
-fn no_more(solution: Solution, why: RefutingEnd) -> Solution {
+/// What is told where no log stands with the document, and why.
+fn without_logs(solution: Solution, why: RefutingEnd) -> Solution {
     Solution {
         refuted: nothing(why),
         ..solution
@@ -66,7 +66,7 @@ pub(crate) fn with_logs<R: Threads + Wait + Sync, G: Gate + Sync, D: Deadline + 
         Ok(longer) => longer,
         Err(_) => Longer {
             reply: None,
-            solution: no_more(solution, RefutingEnd::NoMemory),
+            solution: without_logs(solution, RefutingEnd::NoMemory),
             circuit: None,
         },
     }
@@ -160,7 +160,7 @@ fn kept(
     if sizes == 0 {
         return Ok(Longer {
             reply: None,
-            solution: no_more(solution, end),
+            solution: without_logs(solution, end),
             circuit: plain.document.circuit,
         });
     }
@@ -177,7 +177,7 @@ fn kept(
         }),
         Err(line) => Ok(Longer {
             reply: None,
-            solution: no_more(solution, RefutingEnd::BadLine(line)),
+            solution: without_logs(solution, RefutingEnd::BadLine(line)),
             circuit: document.circuit,
         }),
     }
