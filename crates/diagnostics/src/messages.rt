@@ -291,12 +291,8 @@ fn push_solved_text(
     if let Some(fault) = answer.fault {
         return push_text_fault(alloc, file, fault, RefusedBy::Solve, out);
     }
-    let solved = Solved {
-        name: file.name,
-        solving: Some(solving),
-        command: &["boundsyn", "solve", file.name],
-        alone: None,
-    };
+    let command = ["boundsyn", "solve", file.name];
+    let solved = Solved::of_listed(file.name, solving, &command);
     match answer.told {
         Some(Told::Unsolved(kind, why, conjuncts)) => {
             push_unsolved(solved, kind, why, conjuncts, out)?

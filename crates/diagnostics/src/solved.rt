@@ -36,7 +36,17 @@ pub(crate) struct Alone<'a> {
     pub(crate) signals: &'a SignalNames,
 }
 
-impl Solved<'_> {
+impl<'a> Solved<'a> {
+    /// An answer to a text of a list, for which this command alone does the same.
+    pub(crate) fn of_listed(name: &'a str, solving: Solving, command: &'a [&'a str]) -> Solved<'a> {
+        Solved {
+            name,
+            solving: Some(solving),
+            command,
+            alone: None,
+        }
+    }
+
     /// Whether it was asked that no size is refuted.
     pub(crate) fn is_brief(self) -> bool {
         self.solving.is_some_and(|solving| solving.max == Some(0))

@@ -218,14 +218,18 @@ fn wrong_in<'a>(command: Option<Command>, words: &'a [String]) -> Wrong<'a> {
 
 /// What is wrong with a word for the output's file that was left where it stood: it names none, or is the second one.
 fn wrong_output<'a>(word: &'a str, words: &[String]) -> Wrong<'a> {
-    let name = match word.split_once('=') {
-        Some((_, name)) => name,
-        None => words.get(2).map_or("", |name| name.as_str()),
-    };
-    if name.is_empty() {
-        Wrong::NoFile(word)
-    } else {
+    if names_file(word, words) {
         Wrong::Twice(word)
+    } else {
+        Wrong::NoFile(word)
+    }
+}
+
+/// Whether a first word for the output's file has one, behind `=` or in the next word.
+fn names_file(word: &str, words: &[String]) -> bool {
+    match word.split_once('=') {
+        Some((_, name)) => !name.is_empty(),
+        None => words.get(2).is_some_and(|name| !name.is_empty()),
     }
 }
 
