@@ -257,7 +257,10 @@ where
 }
 
 /// Takes the program's own words out of the words, and gives the exit status.
-fn status_for(rt: &HostRuntime, alloc: Global, words: &mut Vec<String>) -> Result<u8, AllocError> {
+fn status_for<R>(rt: &R, alloc: Global, words: &mut Vec<String>) -> Result<u8, AllocError>
+where
+    R: Files + Print + Eprint + Clock + Threads + Wait + Sync + AllocGlobal,
+{
     let file = take_output(alloc, words, &OWN_WORDS)?;
     let own = read_own_words(words);
     for _ in 0..own.count() {
