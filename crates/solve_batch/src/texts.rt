@@ -26,7 +26,7 @@ pub struct Solving<'a> {
     time: &'a SharedTime,
 }
 
-impl Model for Solving<'_> {
+impl<'a> Model for Solving<'a> {
     ghost use Rattle.solve_answer.specs.Parts.{limits_of};
     ghost use Rattle.solve_batch.specs.SolvedBatch.{AskedOfEach};
 
