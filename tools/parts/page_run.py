@@ -7,6 +7,7 @@ import subprocess
 import sys
 
 from browser import Page
+from page_drawings import OVERLAPS, members
 from page_promises import delay, lose, owe, press_buttons, promises, same
 
 STEPS = 10
@@ -59,7 +60,8 @@ def test(boundsyn, show, text, spec, words, room, pictures):
     try:
         title = re.search(r'TITLE: +"([^"]*)"', open(spec, encoding="ascii").read()).group(1)
         same(f"{text}: the title", (page.text("#title"), page.value("document.title")), (title, title))
-        {"prophecy": lose, "arbiter_of_two": owe, "later": delay}.get(text, promises)(page)
+        {"prophecy": lose, "arbiter_of_two": owe, "later": delay, "one_of_four": members}.get(text, promises)(page)
+        same(f"{text}: texts of the drawing that lie upon one another", page.value(OVERLAPS), 0)
         take_steps(page, text, names, letters, wave)
         same(f"{text}: the run", dict(line.split(None, 1) for line in page.text("#wave").splitlines()), wave)
         same(f"{text}: that the last step is said in words", page.text("#said").startswith(f"Step {STEPS}: in state {wave['(state)'][-1]}, "), True)

@@ -14,6 +14,13 @@ MAIN {{ INPUTS {{ r; }} OUTPUTS {{ g; }} {} }}
 """
 MEANT = ["GUARANTEE { G (g <-> r); }", "REQUIRE { r || X r; } ASSERT { g <-> r; } GUARANTEE { F g; }", "GUARANTEE { G (r || !r); }"]
 KINDS = ["Mealy", "Moore", "Mealy, Strict", "Moore, Strict"]
+WIDE = """INFO { TITLE: "t" DESCRIPTION: "d" SEMANTICS: Moore TARGET: Mealy }
+MAIN { INPUTS { r[12]; } OUTPUTS { g[12]; } GUARANTEE { &&[0 <= i < 12] G (X r[i] -> g[i]); } }
+"""
+MADE = """INFO { TITLE: "t" DESCRIPTION: "d" SEMANTICS: Mealy TARGET: Moore }
+GLOBAL { DEFINITIONS { answers(asked, given) = G (asked -> F given); } }
+MAIN { INPUTS { r; } OUTPUTS { g; h; } GUARANTEE { answers(r && X r, g U h); F[3:2] g || G F !h; } }
+"""
 
 
 def given(program):
@@ -30,12 +37,16 @@ def given(program):
 
 
 def solved(program, folder):
-    """The same with documents of version 6, where the program writes such: of texts of examples/, and of small ones whose kinds may differ."""
+    """The same with documents of version 6, where the program writes such: of texts of examples/, of small ones whose kinds may differ, of one with many
+    signals, and of one whose list of formulas has nodes in another order than its sections."""
     for name in dict.fromkeys(name for name, _ in SOLVED):
         path = TOP / "examples" / (name + ".tlsf")
         documents = [said(program, "solve", path, *options.split()) for it, options in SOLVED if it == name]
         yield path.read_text(encoding="utf-8"), [it for it in documents if not it.startswith(b"words refused")]
     spec = pathlib.Path(folder, "mixed")
+    for text in (WIDE, MADE):
+        _ = spec.write_text(text, encoding="utf-8")
+        yield text, [said(program, "solve", spec, "--max", most, *kind) for most in "01" for kind in ([], ["--kind", "moore"]) if text != WIDE or most == "0"]
     for meant in MEANT:
         texts, documents = [MIXED.format(semantics, target, meant) for semantics in KINDS for target in KINDS[:2]], []
         for text in texts:

@@ -5,6 +5,7 @@ use crate::words::{Asked, MachineTask};
 use input_output::{FileShelf, Shelf, ShelfFault};
 use machine_table::{Choice, Part, ShowFault, Shown, Text, chosen_circuit, read_shown};
 use machine_views::{ModuleView, Reset, View, WordView, show};
+use program_customs::file_of;
 use shown_text::push_shown;
 use spec_texts::{Form, SpecText, TextFault, Told, proof_files, spec_text};
 use std::alloc::{AllocError, Global};
@@ -16,7 +17,7 @@ use text_lint::{Lint, lint_of};
 fn bytes_of<R: Files>(rt: &R, alloc: Global, name: &str) -> Result<Vec<u8>, Fault> {
     let mut bytes = Vec::new(alloc);
     let mut shelf = FileShelf::new(rt, alloc);
-    match shelf.take(name, u64::MAX, &mut bytes) {
+    match shelf.take(file_of(name), u64::MAX, &mut bytes) {
         Ok(()) => Ok(bytes),
         Err(ShelfFault::NoMemory) => Err(Fault::NoMemory),
         Err(_) => Err(Fault::of_unread(alloc, name, shelf.last_error())?),
@@ -172,6 +173,9 @@ fn proofs_text<R: Files>(
         Err(TextFault::Refused(line)) => {
             return Err(Fault::of(alloc, TextFault::Refused(line), text)?);
         }
+        Err(TextFault::RefusedBySolve(line)) => {
+            return Err(Fault::of(alloc, TextFault::RefusedBySolve(line), text)?);
+        }
         Err(other) => return Err(Fault::of(alloc, other, document)?),
     };
     let mut names = Vec::new(alloc);
@@ -218,25 +222,32 @@ pub(crate) fn text_answer<R: Files>(
 }
 
 /// A line for each thing that the text of a file says and that is seldom meant.
-pub(crate) fn lint_answer<R: Files>(rt: &R, alloc: Global, name: &str) -> Result<Vec<u8>, Fault> {
+pub(crate) fn lint_answer<R: Files>(rt: &R, alloc: Global, name: &str) -> Result<SpecText, Fault> {
     let bytes = bytes_of(rt, alloc, name)?;
     let file = File {
         name,
         bytes: &bytes,
     };
-    told(alloc, lint_text(alloc, file), file)
+    match lint_text(alloc, file) {
+        Ok(text) => Ok(text),
+        Err(fault) => Err(Fault::of(alloc, fault, file)?),
+    }
 }
 
-fn lint_text(alloc: Global, file: File<'_>) -> Result<Vec<u8>, TextFault> {
+fn lint_text(alloc: Global, file: File<'_>) -> Result<SpecText, TextFault> {
     // Of a text that is refused nothing is said but its fault.
-    let _about = Told::of(alloc, file.bytes, None)?;
+    let about = Told::of(alloc, file.bytes, None)?;
     let mut shown = String::new(alloc);
     push_shown(alloc, file.name.as_bytes(), &mut shown)?;
     let mut out = Text::new(alloc);
     for lint in &lint_of(alloc, file.bytes)? {
         push_lint(&mut out, &shown, lint);
     }
-    Ok(out.finish()?)
+    Ok(SpecText {
+        bytes: out.finish()?,
+        taken: about.taken,
+        note: None,
+    })
 }
 
 /// The line of one such thing.

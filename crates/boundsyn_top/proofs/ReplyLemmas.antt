@@ -29,11 +29,9 @@ use Rattle.spec_problems.specs.declared.texts.TextProblems.{TextProblems}
 use Rattle.synth_engine.specs.declared.settings.Settings.{Settings}
 use Rattle.synth_answer.specs.Answer.{Answers, realizable, unrealizable, bounded, no_size, no_entries}
 use Rattle.synth_answer.specs.Answer as synthesis
-use Rattle.text_ground.specs.declared.texts.Problems.{Problems}
-use Rattle.text_ground.specs.declared.texts.Problems.TheVariants.{Of, Refused}
-use Rattle.check_answer.specs.Answer.{CheckAnswers}
+use Rattle.check_answer.specs.Answer.{CheckAnswers, IsTakenBySolve}
 use Rattle.check_answer.specs.Answer as certificate
-use Rattle.check_answer.specs.Reply.{CanBeTested, IsForCertificates, IsForCheck}
+use Rattle.check_answer.specs.Reply.{IsForCheck}
 use Rattle.letters_and_lassos.specs.declared.kinds.Side.{Side}
 use Rattle.letters_and_lassos.specs.declared.kinds.Side.TheVariants.{Environment, System}
 use Rattle.solve_ground.specs.declared.texts.SolveText.{SolveText}
@@ -107,16 +105,9 @@ untaken_by words told asked name is foreign = foreign asked (record { settings =
 pub not_first : (told : Option Files) (asked : Asked) (spec name : List ℕ) → first_file asked ≡ spec ∷ [] → (TakesFile told asked name → ⊥) → name ≢ spec
 not_first told asked spec name is other = λ same. other (takes.first (subst (λ xs. Contains xs name) (sym is) (0, omega arith, sym same)))
 
--- a certificate is taken for a text that isn't refused in any case
-pub takes_certificates : (text : List ℕ) (found : Problems) → ProblemsOfTextsAreDetermined → IsForCertificates text found → TakesCertificates text
-takes_certificates text (Of t) law taken = record {
-  unless = λ r. law.no_fault text (Some Mealy) _ (spec_seen t.spec) t.problems r.code r.place taken.text_with.are r.fault;
-}
-takes_certificates text (Refused reply) law alone = record { unless = λ r. alone.taken.none r.larger_code r.larger_place r.larger }
-
-pub can_be_tested : (text : List ℕ) (found : Problems) → IsForCertificates text found → CanBeTested found
-can_be_tested text (Of t) taken = taken.facts
-can_be_tested text (Refused reply) alone = tt
+-- a certificate is taken for a text that `solve` takes
+pub takes_certificates : (text : List ℕ) → IsTakenBySolve text → TakesCertificates text
+takes_certificates text taken = record { unless = λ r. taken.none r.larger_code r.larger_place r.larger }
 
 -- a text that is taken, or a flat form, has no fault
 pub taken_without_fault : (text : List ℕ) (kind : Option Kind) (known : SolveText) → IsTestable text kind known → HasNone (solving.IsSolveFault text kind)
@@ -200,7 +191,7 @@ fault_told Fault bytes status refused = of_fault refused.code refused.place refu
 
 -- problems leave no fault
 pub check_has_none : (text : List ℕ) (t : TextProblems) → ProblemsOfTextsAreDetermined → IsForCheck text t → HasNone (IsFirstFault text (Some Mealy))
-check_has_none text t law taken = record { none = λ code place fault. law.no_fault text (Some Mealy) _ (spec_seen t.spec) t.problems code place taken.text_with.are fault }
+check_has_none text t law known = record { none = λ code place fault. law.no_fault text (Some Mealy) _ (spec_seen t.spec) t.problems code place known.text_with.are fault }
 
 pub verify_has_none : (text : List ℕ) (kind : Option Kind) (t : TextProblems) → ProblemsOfTextsAreDetermined → IsForVerify text kind t → HasNone (IsSynthFault System text kind)
 verify_has_none text kind t law taken = record { none = λ code place fault. law.no_fault text kind _ (spec_seen t.spec) t.problems code place taken.text_with.are fault }

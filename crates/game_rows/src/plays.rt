@@ -2,10 +2,10 @@
 
 use crate::headings::{Heading, Sides, Slip};
 use crate::reductions::push_reduction;
-use crate::tests::passes;
 use game_machine::{Budget, Contest, Found, Outcome, find};
 use letters_and_lassos::Side;
 use machine_model::{Automaton, Counts, Edge, Problem};
+use product_test::passes;
 use spec_problems::{TextProblems, text_problems};
 use std::alloc::{AllocError, Global};
 use std::thread::Threads;

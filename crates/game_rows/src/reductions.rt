@@ -1,13 +1,13 @@
 //! A text with a circuit, whose machine is made smaller.
 
 use crate::headings::{Heading, Sides, Slip};
-use crate::tests::passes;
 use aiger_text::{Circuit, read_circuit};
 use annotation_maker::Maker;
 use game_machine::{GivenTable, table_circuit};
 use letters_and_lassos::{Kind, Side};
 use machine_model::{Counts, Problem};
 use machine_reductions::{Reduction, with_fewer_states};
+use product_test::passes;
 use solve_ground::{SolveText, solve_text};
 use spec_problems::{TextProblems, text_problems};
 use std::alloc::{AllocError, Global};

@@ -2,6 +2,7 @@
 
 use crate::logs::{Ending, LogSummary, side_name};
 use crate::solved::put_letters;
+use aiger_text::Circuit;
 use document_text::{Document, Verdict};
 use letters_and_lassos::Side;
 use machine_table::{
@@ -28,10 +29,9 @@ pub(crate) fn put_json(alloc: Global, shown: &Shown, out: &mut Text) -> Result<(
         Shown::Document(document) => put_head(document, out),
         Shown::Solved(document) => put_solved_head(document, out),
     }
-    match shown.machine(alloc) {
-        Ok(machine) => put_machine(alloc, &machine, shown.side(), out)?,
-        Err(ShowFault::NoMachine) => out.put("null"),
-        Err(fault) => return Err(fault),
+    match shown.circuit() {
+        Some(circuit) => put_machine(alloc, circuit, &shown.machine(alloc)?, shown.side(), out)?,
+        None => out.put("null"),
     }
     out.put(", \"logs\": [");
     put_logs(alloc, shown, out)?;
@@ -106,8 +106,10 @@ fn size_part(size: Option<u32>) -> Part<'static> {
     }
 }
 
+/// Puts a machine, with how many gates and latches its circuit has.
 fn put_machine(
     alloc: Global,
+    circuit: &Circuit,
     machine: &Machine,
     side: Option<Side>,
     out: &mut Text,
@@ -118,11 +120,13 @@ fn put_machine(
     let inputs = escaped(alloc, &machine.inputs.labels, &SIGNS)?;
     let outputs = escaped(alloc, &machine.outputs.labels, &SIGNS)?;
     out.fill(
-        "{\"side\": \"{}\", \"kind\": \"{}\", \"states\": {}, \"inputs\": ",
+        "{\"side\": \"{}\", \"kind\": \"{}\", \"states\": {}, \"gates\": {}, \"latches\": {}, \"inputs\": ",
         &[
             Part::Word(side.map_or("unknown", side_name)),
             Part::Word(machine.kind.word()),
             Part::Number(machine.rows.len() as u64),
+            Part::Number(circuit.gates.len() as u64),
+            Part::Number(circuit.latches.len() as u64),
         ],
     );
     put_texts(&inputs, out);

@@ -45,12 +45,18 @@ svg { display: block; color: var(--ink); }\n"
 
 fn front_1() -> &'static str {
     "#graph svg { width: 100%; height: auto; }\n\
+#drawn-it { display: flex; flex-wrap: wrap; gap: 0 2rem; }\n\
+#graph { flex: 1 1 22rem; min-width: 0; }\n\
+#arrows { flex: 0 1 auto; min-width: 0; }\n\
+#arrows li.taken { border-color: var(--mark); font-weight: 700; }\n\
 #run-of-it { display: flex; }\n\
 #names { flex: none; max-width: 45%; font: 13px ui-monospace, monospace; }\n\
 #names div { height: 26px; line-height: 26px; padding-right: .6rem; overflow: hidden; text-overflow: ellipsis; white-space: nowrap; }\n\
 #drawing { flex: 1; min-width: 0; }\n\
 button, li code { overflow-wrap: anywhere; }\n\
 ul { list-style: none; margin: 0; padding: 0; }\n\
+#formulas ul { columns: 22rem; column-gap: 2rem; }\n\
+#formulas li { break-inside: avoid; }\n\
 li { padding: .25rem 0 .25rem .6rem; margin: .2rem 0; border-left: 4px solid var(--line); }\n\
 li.kept { border-color: var(--high); }\n\
 li.owed { border-color: var(--owed); }\n\
@@ -77,17 +83,17 @@ svg .tick { stroke: var(--line); stroke-width: 1; }\n\
 <section aria-labelledby=\"play\">\n\
 <h2 id=\"play\">Play</h2>\n\
 <div id=\"now\">\n\
-<p>State <strong id=\"state\">0</strong>, step <span id=\"count\">0</span>.</p>\n\
-<p><span id=\"writes-word\">Writes</span> <strong id=\"written\">-</strong>, and goes to state <span id=\"next\">0</span>.</p>\n\
+<p>State <strong id=\"state\">0</strong>, step <span id=\"count\">0</span>.</p>\n"
+}
+
+fn front_2() -> &'static str {
+    "<p><span id=\"writes-word\">Writes</span> <strong id=\"written\">-</strong>, and goes to state <span id=\"next\">0</span>.</p>\n\
 </div>\n\
 <p id=\"ask\" class=\"quiet\"></p>\n\
 <div id=\"inputs\" role=\"group\" aria-labelledby=\"ask\"></div>\n\
 <div>\n\
-<button id=\"step\" type=\"button\">Step <kbd>Enter</kbd></button>\n"
-}
-
-fn front_2() -> &'static str {
-    "<button id=\"back\" type=\"button\">Back <kbd>b</kbd></button>\n\
+<button id=\"step\" type=\"button\">Step <kbd>Enter</kbd></button>\n\
+<button id=\"back\" type=\"button\">Back <kbd>b</kbd></button>\n\
 <button id=\"reset\" type=\"button\">Reset <kbd>0</kbd></button>\n\
 <button id=\"random\" type=\"button\">Ten random steps <kbd>r</kbd></button>\n\
 </div>\n\
@@ -96,7 +102,7 @@ fn front_2() -> &'static str {
 </section>\n\
 <section id=\"drawing-of-it\" aria-labelledby=\"drawn\">\n\
 <h2 id=\"drawn\">The machine</h2>\n\
-<div id=\"graph\" class=\"wide\"></div>\n\
+<div id=\"drawn-it\"><div id=\"graph\" class=\"wide\"></div><ul id=\"arrows\"></ul></div>\n\
 </section>\n\
 <section class=\"whole\" id=\"promises\" aria-labelledby=\"promised\">\n\
 <h2 id=\"promised\">What each side has to keep</h2>\n\
@@ -113,7 +119,7 @@ fn front_2() -> &'static str {
 <h2 id=\"rows\">Table</h2>\n\
 <div class=\"wide\" tabindex=\"0\" aria-labelledby=\"rows\"><table><thead id=\"heads\"></thead><tbody id=\"table\"></tbody></table></div>\n\
 </section>\n\
-<section aria-labelledby=\"known\">\n\
+<section id=\"knowledge\" aria-labelledby=\"known\">\n\
 <h2 id=\"known\">What is known</h2>\n\
 <div id=\"sizes\"></div>\n\
 </section>\n\
@@ -188,8 +194,15 @@ const acts = {\n\
 \x20\x20back() { if (steps.length) { const gone = steps.pop(); read = [...gone.letter]; say(`Back in state ${stateNow()}.`); } },\n\
 \x20\x20reset() { steps = []; read = machine.inputs.map(() => \"0\"); say(\"Back at the start, in state 0.\"); },\n\
 \x20\x20random() {\n\
-\x20\x20\x20\x20for (let i = 0; i < 10; i += 1) { step(read.map(() => (Math.random() < 0.5 ? \"0\" : \"1\"))); }\n\
-\x20\x20\x20\x20say(`Ten random steps; now in state ${stateNow()}.`);\n\
+\x20\x20\x20\x20let lefts = isCounter ? [] : promises.filter((promise) => promise.isAssumed).map(leftOf), failed = 0;\n\
+\x20\x20\x20\x20for (let i = 0; i < 10; i += 1) {\n\
+\x20\x20\x20\x20\x20\x20const letter = letterByChance(lefts);\n\
+\x20\x20\x20\x20\x20\x20if (brokenBy(letter, lefts) > 0 && failed === 0) { failed = steps.length + 1; }\n\
+\x20\x20\x20\x20\x20\x20step(letter);\n\
+\x20\x20\x20\x20\x20\x20lefts = lefts.map((left) => behind(left, signalsOf(steps[steps.length - 1]))).filter((left) => left !== NO);\n\
+\x20\x20\x20\x20}\n\
+\x20\x20\x20\x20const more = failed ? ` At step ${failed} nothing was found that keeps the assumptions.` : \"\";\n\
+\x20\x20\x20\x20say(`Ten random steps; now in state ${stateNow()}.${more}`);\n\
 \x20\x20},\n\
 \x20\x20toggle(i) { read[i] = read[i] === \"1\" ? \"0\" : \"1\"; say(`${machine.inputs[i]} is ${read[i] === \"1\" ? \"true\" : \"false\"}.`); },\n\
 };\n\
@@ -202,24 +215,24 @@ function act(name, value) {\n\
 // ---- What is seen ----\n\
 \n\
 function show() {\n\
-\x20\x20const state = stateNow();\n\
-\x20\x20const edge = edgeOf(state, read);\n\
+\x20\x20const state = stateNow();\n"
+}
+
+fn back_2() -> &'static str {
+    "\x20\x20const edge = edgeOf(state, read);\n\
 \x20\x20find(\"state\").textContent = state;\n\
 \x20\x20find(\"count\").textContent = steps.length;\n\
 \x20\x20find(\"written\").textContent = namesIn(edge[1], machine.outputs);\n\
 \x20\x20find(\"next\").textContent = edge[2];\n\
 \x20\x20find(\"back\").disabled = steps.length === 0;\n\
-\x20\x20document.querySelectorAll(\"#inputs button\").forEach((button, i) => button.setAttribute(\"aria-pressed\", read[i] === \"1\"));\n"
-}
-
-fn back_2() -> &'static str {
-    "\x20\x20document.querySelectorAll(\"#table tr\").forEach((row) => {\n\
+\x20\x20document.querySelectorAll(\"#inputs button\").forEach((button, i) => button.setAttribute(\"aria-pressed\", read[i] === \"1\"));\n\
+\x20\x20document.querySelectorAll(\"#table tr\").forEach((row) => {\n\
 \x20\x20\x20\x20const isHere = Number(row.dataset.state) === state;\n\
 \x20\x20\x20\x20const isTaken = isHere && machine.states[state][row.dataset.edge] === edge;\n\
 \x20\x20\x20\x20row.className = isTaken ? \"taken\" : isHere ? \"here\" : \"\";\n\
 \x20\x20});\n\
 \x20\x20document.querySelectorAll(\"#graph .state\").forEach((circle) => circle.classList.toggle(\"here\", Number(circle.dataset.state) === state));\n\
-\x20\x20document.querySelectorAll(\"#graph [data-arrow]\").forEach((arrow) => arrow.classList.toggle(\"taken\", arrow.dataset.arrow === `${state}-${edge[2]}`));\n\
+\x20\x20document.querySelectorAll(\"#drawn-it [data-arrow]\").forEach((arrow) => arrow.classList.toggle(\"taken\", arrow.dataset.arrow === `${state}-${edge[2]}`));\n\
 \x20\x20find(\"wave\").textContent = waveText();\n\
 \x20\x20drawWave();\n\
 \x20\x20showPromises();\n\
@@ -245,18 +258,18 @@ function waveText() {\n\
 }\n\
 \n\
 function element(name, attributes, text) {\n\
-\x20\x20const made = document.createElementNS(\"http://www.w3.org/2000/svg\", name);\n\
-\x20\x20Object.entries(attributes).forEach(([key, value]) => made.setAttribute(key, value));\n\
+\x20\x20const made = document.createElementNS(\"http://www.w3.org/2000/svg\", name);\n"
+}
+
+fn back_3() -> &'static str {
+    "\x20\x20Object.entries(attributes).forEach(([key, value]) => made.setAttribute(key, value));\n\
 \x20\x20if (text !== undefined) { made.textContent = text; }\n\
 \x20\x20return made;\n\
 }\n\
 \n\
 function drawWave() {\n\
-\x20\x20const rows = waveRows();\n"
-}
-
-fn back_3() -> &'static str {
-    "\x20\x20const cell = 26, high = 26;\n\
+\x20\x20const rows = waveRows();\n\
+\x20\x20const cell = 26, high = 26;\n\
 \x20\x20find(\"names\").replaceChildren(...[...rows.map((row) => row[0]), \"(state)\"].map((name) => {\n\
 \x20\x20\x20\x20const made = document.createElement(\"div\");\n\
 \x20\x20\x20\x20made.textContent = name;\n\
@@ -288,18 +301,18 @@ const YES = { op: \"true\", key: \"1\" }, NO = { op: \"false\", key: \"0\" };\n\
 const LONGEST = 20000;\n\
 \n\
 function make(op, ...parts) {\n\
-\x20\x20return { op, parts, key: `${op}(${parts.map((part) => part.key).join(\" \")})` };\n\
-}\n\
+\x20\x20return { op, parts, key: `${op}(${parts.map((part) => part.key).join(\" \")})` };\n"
+}
+
+fn back_4() -> &'static str {
+    "}\n\
 \n\
 function literal(name, isTrue) {\n\
 \x20\x20return { op: \"literal\", name, isTrue, key: (isTrue ? \"\" : \"!\") + name };\n\
 }\n\
 \n\
-// `and` of formulas, or `or` of them: each once, without those that say nothing.\n"
-}
-
-fn back_4() -> &'static str {
-    "function join(op, parts) {\n\
+// `and` of formulas, or `or` of them: each once, without those that say nothing.\n\
+function join(op, parts) {\n\
 \x20\x20const nothing = op === \"and\" ? YES : NO, all = op === \"and\" ? NO : YES, other = op === \"and\" ? \"or\" : \"and\";\n\
 \x20\x20const found = new Map();\n\
 \x20\x20parts.flatMap((part) => (part.op === op ? part.parts : [part])).forEach((part) => found.set(part.key, part));\n\
@@ -331,18 +344,18 @@ function parse(text) {\n\
 \x20\x20return both();\n\
 }\n\
 \n\
-// The same with `!` at signals alone, and with `until` and `release` for what isn't of one step.\n\
-function normal(tree, isTrue) {\n\
+// The same with `!` at signals alone, and with `until` and `release` for what isn't of one step.\n"
+}
+
+fn back_5() -> &'static str {
+    "function normal(tree, isTrue) {\n\
 \x20\x20const a = (sign) => normal(tree.a, sign === isTrue), b = (sign) => normal(tree.b, sign === isTrue);\n\
 \x20\x20const both = (op, x, y) => join(op, [x, y]);\n\
 \x20\x20const op = (own, dual) => (isTrue ? own : dual);\n\
 \x20\x20switch (tree.op) {\n\
 \x20\x20\x20\x20case \"name\": return tree.word === \"true\" || tree.word === \"false\" ? ((tree.word === \"true\") === isTrue ? YES : NO) : literal(tree.word, isTrue);\n\
-\x20\x20\x20\x20case \"!\": return a(false);\n"
-}
-
-fn back_5() -> &'static str {
-    "\x20\x20\x20\x20case \"X\": return make(\"next\", a(true));\n\
+\x20\x20\x20\x20case \"!\": return a(false);\n\
+\x20\x20\x20\x20case \"X\": return make(\"next\", a(true));\n\
 \x20\x20\x20\x20case \"F\": return make(op(\"until\", \"release\"), op(YES, NO), a(true));\n\
 \x20\x20\x20\x20case \"G\": return make(op(\"release\", \"until\"), op(NO, YES), a(true));\n\
 \x20\x20\x20\x20case \"&&\": return both(op(\"and\", \"or\"), a(true), b(true));\n\
@@ -374,20 +387,70 @@ function isOwed(formula) {\n\
 \x20\x20switch (formula.op) {\n\
 \x20\x20\x20\x20case \"until\": return true;\n\
 \x20\x20\x20\x20case \"next\": return isOwed(formula.parts[0]);\n\
-\x20\x20\x20\x20case \"and\": return formula.parts.some(isOwed);\n\
-\x20\x20\x20\x20case \"or\": return formula.parts.every(isOwed);\n\
+\x20\x20\x20\x20case \"and\": return formula.parts.some(isOwed);\n"
+}
+
+fn back_6() -> &'static str {
+    "\x20\x20\x20\x20case \"or\": return formula.parts.every(isOwed);\n\
 \x20\x20\x20\x20default: return false;\n\
 \x20\x20}\n\
 }\n\
 \n\
+// The sides of a formula `(a && b)`, as texts.\n\
+function sidesOf(text) {\n\
+\x20\x20let depth = 0;\n\
+\x20\x20for (let i = 0; i < text.length; i += 1) {\n\
+\x20\x20\x20\x20depth += text[i] === \"(\" ? 1 : text[i] === \")\" ? -1 : 0;\n\
+\x20\x20\x20\x20if (depth === 0) { return []; }\n\
+\x20\x20\x20\x20if (depth === 1 && text.startsWith(\" && \", i)) { return [text.slice(1, i), text.slice(i + 4, -1)]; }\n\
+\x20\x20}\n\
+\x20\x20return [];\n\
+}\n\
+\n\
+// The members of a conjunction, at the top or behind `G`, as texts; so those of a family. An empty family is `true`.\n\
+function membersOf(text) {\n\
+\x20\x20const sides = sidesOf(text).flatMap(membersOf).filter((member) => member !== \"true\");\n\
+\x20\x20if (sides.length) { return sides; }\n\
+\x20\x20const inner = text.startsWith(\"(G \") ? membersOf(text.slice(3, -1)) : [];\n\
+\x20\x20return inner.length > 1 ? inner.map((member) => `(G ${member})`) : [text];\n\
+}\n\
+\n\
+// A line for each member of a line's formula, behind the word of its section.\n\
+function memberLines(line) {\n\
+\x20\x20const at = line.indexOf(\" \") + 1;\n\
+\x20\x20return membersOf(line.slice(at)).map((member) => line.slice(0, at) + member);\n\
+}\n\
+\n\
 // A formula of the text: what is left of it, and since when each part of that is owed; steps count from 1, and 0 is the start.\n\
-function promiseOf(line) {\n"
-}
-
-fn back_6() -> &'static str {
-    "\x20\x20const [word, text] = [line.slice(0, line.indexOf(\" \")), line.slice(line.indexOf(\" \") + 1)];\n\
+function promiseOf(line) {\n\
+\x20\x20const [word, text] = [line.slice(0, line.indexOf(\" \")), line.slice(line.indexOf(\" \") + 1)];\n\
 \x20\x20const tree = word === \"require\" || word === \"assert\" ? { op: \"G\", a: parse(text) } : parse(text);\n\
 \x20\x20return { line, isAssumed: [\"initially\", \"require\", \"assume\"].includes(word), start: normal(tree, true) };\n\
+}\n\
+\n\
+// What is left of a formula behind the run so far.\n\
+function leftOf(promise) {\n\
+\x20\x20return steps.reduce((left, made) => (left.key.length > LONGEST ? YES : behind(left, signalsOf(made))), promise.start);\n"
+}
+
+fn back_7() -> &'static str {
+    "}\n\
+\n\
+// How many of these formulas a letter breaks in this step.\n\
+function brokenBy(letter, lefts) {\n\
+\x20\x20const signals = signalsOf({ letter: letter.join(\"\"), written: edgeOf(stateNow(), letter)[1] });\n\
+\x20\x20return lefts.filter((left) => left !== NO && behind(left, signals) === NO).length;\n\
+}\n\
+\n\
+// A letter by chance that breaks none of these formulas in this step, where one is met by changing one input after the other.\n\
+function letterByChance(lefts) {\n\
+\x20\x20let letter = read.map(() => (Math.random() < 0.5 ? \"0\" : \"1\")), bad = brokenBy(letter, lefts);\n\
+\x20\x20for (let i = 0; i < 2000 && bad > 0 && letter.length; i += 1) {\n\
+\x20\x20\x20\x20const at = Math.floor(Math.random() * letter.length), other = letter.map((bit, k) => (k === at ? String(1 - bit) : bit));\n\
+\x20\x20\x20\x20const now = brokenBy(other, lefts);\n\
+\x20\x20\x20\x20if (now <= bad || Math.random() < 0.1) { [letter, bad] = [other, now]; }\n\
+\x20\x20}\n\
+\x20\x20return letter;\n\
 }\n\
 \n\
 function follow(promise) {\n\
@@ -410,8 +473,11 @@ function follow(promise) {\n\
 }\n\
 \n\
 function signalsOf(made) {\n\
-\x20\x20return new Set([...machine.inputs.filter((_, i) => made.letter[i] === \"1\"), ...machine.outputs.filter((_, i) => made.written[i] === \"1\")]);\n\
-}\n\
+\x20\x20return new Set([...machine.inputs.filter((_, i) => made.letter[i] === \"1\"), ...machine.outputs.filter((_, i) => made.written[i] === \"1\")]);\n"
+}
+
+fn back_8() -> &'static str {
+    "}\n\
 \n\
 function showPromises() {\n\
 \x20\x20const found = promises.map((promise) => ({ promise, now: follow(promise) }));\n\
@@ -424,18 +490,25 @@ function showPromises() {\n\
 \x20\x20const more = promises.some((promise) => promise.isAssumed) ? \", unless the environment breaks an assumption\" : \"\";\n\
 \x20\x20find(\"lost\").textContent = assumed < Infinity ? `The environment broke an assumption at step ${assumed}.`\n\
 \x20\x20\x20\x20: wanted < Infinity ? `A guarantee is broken since step ${wanted}: the controller has lost${more}.` : \"\";\n\
-}\n"
-}
-
-fn back_7() -> &'static str {
-    "\n\
+}\n\
+\n\
 // ---- The graph: states on a circle, an arrow from each to each that it leads to ----\n\
 \n\
-// The conditions under which a state leads to another, a line each, the first ones alone where there are many.\n\
-function arrowLines(from, to) {\n\
+// The conditions under which a state leads to another, a line each.\n\
+function conditionLines(from, to) {\n\
 \x20\x20const edges = machine.states[from].filter((edge) => edge[2] === to);\n\
-\x20\x20const lines = edges.map((edge) => condition(edge[0]) + (isMoore ? \"\" : \" / \" + namesIn(edge[1], machine.outputs)));\n\
+\x20\x20return edges.map((edge) => condition(edge[0]) + (isMoore ? \"\" : \" / \" + namesIn(edge[1], machine.outputs)));\n\
+}\n\
+\n\
+// The first ones alone where there are many.\n\
+function few(lines) {\n\
 \x20\x20return lines.length > 3 ? [...lines.slice(0, 2), `and ${lines.length - 2} more`] : lines;\n\
+}\n\
+\n\
+// The arrows from each state to each that it leads to.\n\
+function arrowsOf() {\n\
+\x20\x20const all = machine.states.flatMap((_, from) => machine.states.map((_, to) => ({ from, to, conditions: conditionLines(from, to) })));\n\
+\x20\x20return all.filter((arrow) => arrow.conditions.length).map((arrow) => ({ ...arrow, lines: few(arrow.conditions) }));\n\
 }\n\
 \n\
 function drawGraph() {\n\
@@ -443,35 +516,83 @@ function drawGraph() {\n\
 \x20\x20if (count > 12) {\n\
 \x20\x20\x20\x20find(\"graph\").textContent = `It has ${count} states, too many for a drawing: see the table.`;\n\
 \x20\x20\x20\x20return;\n\
+\x20\x20}\n"
+}
+
+fn back_9() -> &'static str {
+    "\x20\x20const arrows = arrowsOf();\n\
+\x20\x20let made = pictureOf(arrows);\n\
+\x20\x20if (isCrowded(made)) {\n\
+\x20\x20\x20\x20made = pictureOf(arrows.map((arrow, i) => ({ ...arrow, lines: [String(i + 1)] })), putOnArrows);\n\
+\x20\x20\x20\x20listArrows(arrows);\n\
 \x20\x20}\n\
-\x20\x20const r = 25, longest = Math.max(...machine.states.flatMap((_, from) => machine.states.map((_, to) => width({ lines: arrowLines(from, to) }))));\n\
+\x20\x20find(\"drawing-of-it\").classList.toggle(\"whole\", made.size > 640 || find(\"arrows\").children.length > 0);\n\
+\x20\x20find(\"graph\").replaceChildren(made.svg);\n\
+}\n\
+\n\
+const RADIUS = 25;\n\
+\n\
+// The drawing, with the places of its labels.\n\
+function pictureOf(arrows, arrange = spread) {\n\
+\x20\x20const r = RADIUS, count = machine.states.length, longest = Math.max(0, ...arrows.map(width));\n\
 \x20\x20const radius = count === 1 ? 0 : count === 2 ? Math.max(90, 4 * longest + 40) : Math.max(130, 28 * count, 3 * longest + 30);\n\
 \x20\x20const places = machine.states.map((_, i) => {\n\
 \x20\x20\x20\x20const angle = -Math.PI + (2 * Math.PI * i) / count;\n\
 \x20\x20\x20\x20return { x: radius * Math.cos(angle), y: 0.8 * radius * Math.sin(angle), angle: count < 3 ? -Math.PI / 2 : angle };\n\
 \x20\x20});\n\
 \x20\x20const svg = element(\"svg\", { role: \"img\", \"aria-label\": `A graph of ${count} states; the table says the same in words.` });\n\
-\x20\x20const labels = [];\n\
-\x20\x20places.forEach((a, from) => places.forEach((b, to) => {\n\
-\x20\x20\x20\x20const lines = arrowLines(from, to);\n\
-\x20\x20\x20\x20if (lines.length) { labels.push(from === to ? drawLoop(svg, a, from, lines, r) : drawArrow(svg, a, b, from, to, lines, r)); }\n\
-\x20\x20}));\n\
-\x20\x20places.forEach((place, i) => drawState(svg, place, i, r));\n\
-\x20\x20spread(labels);\n\
+\x20\x20const labels = arrows.map(({ from, to, lines }) =>\n\
+\x20\x20\x20\x20(from === to ? drawLoop(svg, places[from], from, lines, r) : drawArrow(svg, places[from], places[to], from, to, lines, r)));\n\
+\x20\x20const written = places.map((place, i) => drawState(svg, place, i, r));\n\
+\x20\x20arrange(labels, places, written);\n\
 \x20\x20labels.forEach((label) => drawLabel(svg, label));\n\
 \x20\x20const box = fitted(labels, places, r);\n\
 \x20\x20svg.setAttribute(\"viewBox\", box.join(\" \"));\n\
 \x20\x20svg.style.minWidth = `${0.75 * box[2]}px`;\n\
 \x20\x20svg.style.maxWidth = `${1.15 * box[2]}px`;\n\
-\x20\x20find(\"drawing-of-it\").classList.toggle(\"whole\", box[2] > 640);\n\
-\x20\x20find(\"graph\").replaceChildren(svg);\n\
+\x20\x20return { svg, labels, places, written, size: box[2] };\n\
 }\n\
 \n\
-// Labels that lie upon one another move apart, up and down.\n"
+// Whether a label lies upon another.\n\
+function touches(a, b) {\n\
+\x20\x20return Math.abs(a.x - b.x) < 4 * (width(a) + width(b)) && Math.abs(a.y - b.y) < 8 * (a.lines.length + b.lines.length) - 1;\n\
+}\n\
+\n\
+// Whether a label lies upon a state.\n\
+function isOnState(label, place) {\n"
 }
 
-fn back_8() -> &'static str {
-    "function spread(labels) {\n\
+fn back_10() -> &'static str {
+    "\x20\x20const aside = Math.abs(label.x - place.x) - 4 * width(label), above = Math.abs(label.y - place.y) - 8 * label.lines.length;\n\
+\x20\x20return Math.hypot(Math.max(0, aside), Math.max(0, above)) < RADIUS - 3;\n\
+}\n\
+\n\
+function isCrowded({ labels, places, written }) {\n\
+\x20\x20return labels.some((a, i) => [...labels.slice(i + 1), ...written].some((b) => touches(a, b)) || places.some((place) => isOnState(a, place)));\n\
+}\n\
+\n\
+// Numbers stand on their arrows, where they lie upon no other number and upon no state, if there is such a place.\n\
+function putOnArrows(labels, places, written) {\n\
+\x20\x20labels.forEach((label, i) => {\n\
+\x20\x20\x20\x20const spots = label.curve ? [0.3, 0.4, 0.5, 0.25, 0.6, 0.7, 0.35, 0.45].map((part) => ({ ...label, ...label.curve(part) })) : [];\n\
+\x20\x20\x20\x20const free = spots.find((spot) => ![...labels.slice(0, i), ...written].some((other) => touches(spot, other)) && !places.some((place) => isOnState(spot, place)));\n\
+\x20\x20\x20\x20Object.assign(label, free || spots[0]);\n\
+\x20\x20});\n\
+}\n\
+\n\
+// What the numbers on arrows stand for.\n\
+function listArrows(arrows) {\n\
+\x20\x20find(\"arrows\").replaceChildren(...arrows.map(({ from, to, conditions }, i) => {\n\
+\x20\x20\x20\x20const item = document.createElement(\"li\"), code = document.createElement(\"code\");\n\
+\x20\x20\x20\x20item.dataset.arrow = `${from}-${to}`;\n\
+\x20\x20\x20\x20item.append(`${i + 1}: ${from} to ${to} `, code);\n\
+\x20\x20\x20\x20conditions.forEach((line, k) => code.append(...(k ? [document.createElement(\"br\"), line] : [line])));\n\
+\x20\x20\x20\x20return item;\n\
+\x20\x20}));\n\
+}\n\
+\n\
+// Labels that lie upon one another move apart, up and down.\n\
+function spread(labels) {\n\
 \x20\x20for (let round = 0; round < 60; round += 1) {\n\
 \x20\x20\x20\x20labels.forEach((a, i) => labels.slice(i + 1).forEach((b) => {\n\
 \x20\x20\x20\x20\x20\x20const near = Math.abs(a.x - b.x) < 4 * (width(a) + width(b)) + 4;\n\
@@ -481,8 +602,11 @@ fn back_8() -> &'static str {
 \x20\x20\x20\x20\x20\x20\x20\x20a.y += shift;\n\
 \x20\x20\x20\x20\x20\x20\x20\x20b.y -= shift;\n\
 \x20\x20\x20\x20\x20\x20}\n\
-\x20\x20\x20\x20}));\n\
-\x20\x20}\n\
+\x20\x20\x20\x20}));\n"
+}
+
+fn back_11() -> &'static str {
+    "\x20\x20}\n\
 }\n\
 \n\
 // The most characters of a line.\n\
@@ -506,26 +630,31 @@ function fitted(labels, places, r) {\n\
 \x20\x20return [left, top, right - left, bottom - top];\n\
 }\n\
 \n\
+// Draws a state, and gives the label of what it writes, which is empty where that stands at its arrows.\n\
 function drawState(svg, place, i, r) {\n\
+\x20\x20const label = { lines: [], x: place.x, y: place.y };\n\
 \x20\x20svg.append(element(\"circle\", { cx: place.x, cy: place.y, r, class: \"state\", \"data-state\": i }));\n\
 \x20\x20svg.append(element(\"text\", { x: place.x, y: place.y + 5, \"text-anchor\": \"middle\", style: \"font-weight: 700\" }, i));\n\
 \x20\x20if (isMoore) {\n\
-\x20\x20\x20\x20// (where no arrow comes in: outside at the right, and else below or above, where the state has no loop)\n"
-}
-
-fn back_9() -> &'static str {
-    "\x20\x20\x20\x20const side = Math.cos(place.angle), isBelow = loopAngle(place) !== Math.PI / 2;\n\
+\x20\x20\x20\x20// (where no arrow comes in: outside at the right, and else below or above, where the state has no loop)\n\
+\x20\x20\x20\x20const side = Math.cos(place.angle), isBelow = loopAngle(place) !== Math.PI / 2;\n\
 \x20\x20\x20\x20const at = side > 0.35 ? { x: place.x + r + 8, y: place.y + 5, \"text-anchor\": \"start\" }\n\
 \x20\x20\x20\x20\x20\x20: { x: side < -0.35 ? place.x + 4 : place.x, y: isBelow ? place.y + r + 15 : place.y - r - 7, \"text-anchor\": side < -0.35 ? \"end\" : \"middle\" };\n\
 \x20\x20\x20\x20svg.append(element(\"text\", { ...at, class: \"halo\" }, writtenIn(i)));\n\
+\x20\x20\x20\x20const half = 4 * writtenIn(i).length, turn = { start: half, middle: 0, end: -half }[at[\"text-anchor\"]];\n\
+\x20\x20\x20\x20Object.assign(label, { lines: [writtenIn(i)], x: at.x + turn, y: at.y - 4 });\n\
 \x20\x20}\n\
 \x20\x20if (i === 0) {\n\
-\x20\x20\x20\x20// (from above where a loop leaves at the side, and else from below)\n\
-\x20\x20\x20\x20const turn = Math.abs(loopAngle(place)) === Math.PI / 2 ? -0.5 : 1;\n\
+\x20\x20\x20\x20// (from above where a loop leaves at the side, and else from below)\n"
+}
+
+fn back_12() -> &'static str {
+    "\x20\x20\x20\x20const turn = Math.abs(loopAngle(place)) === Math.PI / 2 ? -0.5 : 1;\n\
 \x20\x20\x20\x20const at = (far) => [place.x - far * Math.cos(turn), place.y - far * Math.sin(turn)];\n\
 \x20\x20\x20\x20svg.append(element(\"path\", { d: `M${at(2.1 * r).join(\" \")}L${at(r + 7).join(\" \")}`, class: \"edge\" }));\n\
 \x20\x20\x20\x20svg.append(arrowHead(...at(r + 2), turn, \"\"));\n\
 \x20\x20}\n\
+\x20\x20return label;\n\
 }\n\
 \n\
 // The tip of an arrow at a point, in a direction.\n\
@@ -553,16 +682,17 @@ function drawArrow(svg, a, b, from, to, lines, r) {\n\
 \x20\x20const dx = b.x - a.x, dy = b.y - a.y, far = Math.hypot(dx, dy), bend = Math.min(42, far / 4);\n\
 \x20\x20const mx = (a.x + b.x) / 2 + (dy / far) * bend, my = (a.y + b.y) / 2 - (dx / far) * bend;\n\
 \x20\x20const toward = (p, x, y, by) => { const d = Math.hypot(x - p.x, y - p.y); return [p.x + ((x - p.x) / d) * by, p.y + ((y - p.y) / d) * by]; };\n\
-\x20\x20const [x1, y1] = toward(a, mx, my, r), [x2, y2] = toward(b, mx, my, r + 3);\n"
-}
-
-fn back_10() -> &'static str {
-    "\x20\x20svg.append(element(\"path\", { d: `M${x1} ${y1}Q${mx} ${my} ${x2} ${y2}`, class: \"edge\", \"data-arrow\": `${from}-${to}` }));\n\
+\x20\x20const [x1, y1] = toward(a, mx, my, r), [x2, y2] = toward(b, mx, my, r + 3);\n\
+\x20\x20svg.append(element(\"path\", { d: `M${x1} ${y1}Q${mx} ${my} ${x2} ${y2}`, class: \"edge\", \"data-arrow\": `${from}-${to}` }));\n\
 \x20\x20svg.append(arrowHead(x2, y2, Math.atan2(y2 - my, x2 - mx), `${from}-${to}`));\n\
 \x20\x20const nx = dy / far, ny = -dx / far, out = 8 + 8 * lines.length * Math.abs(ny) + 4 * width({ lines }) * Math.abs(nx);\n\
-\x20\x20return { lines, x: 0.3 * a.x + 0.5 * mx + 0.2 * b.x + nx * out, y: 0.3 * a.y + 0.5 * my + 0.2 * b.y + ny * out };\n\
-}\n\
-\n\
+\x20\x20const curve = (t) => ({ x: (1 - t) ** 2 * x1 + 2 * t * (1 - t) * mx + t * t * x2, y: (1 - t) ** 2 * y1 + 2 * t * (1 - t) * my + t * t * y2 });\n\
+\x20\x20return { lines, curve, x: 0.3 * a.x + 0.5 * mx + 0.2 * b.x + nx * out, y: 0.3 * a.y + 0.5 * my + 0.2 * b.y + ny * out };\n\
+}\n"
+}
+
+fn back_13() -> &'static str {
+    "\n\
 // ---- What is there once and for all ----\n\
 \n\
 function paragraphs(id, lines) {\n\
@@ -596,22 +726,22 @@ function buildInputs() {\n\
 \x20\x20\x20\x20button.dataset.signal = i;\n\
 \x20\x20\x20\x20button.innerHTML = i < 9 ? `<span></span> <kbd>${i + 1}</kbd>` : \"<span></span>\";\n\
 \x20\x20\x20\x20button.firstChild.textContent = name;\n\
-\x20\x20\x20\x20button.addEventListener(\"click\", () => act(\"toggle\", i));\n"
-}
-
-fn back_11() -> &'static str {
-    "\x20\x20\x20\x20find(\"inputs\").append(button);\n\
+\x20\x20\x20\x20button.addEventListener(\"click\", () => act(\"toggle\", i));\n\
+\x20\x20\x20\x20find(\"inputs\").append(button);\n\
 \x20\x20});\n\
 \x20\x20const turns = {\n\
 \x20\x20\x20\x20\"system Mealy\": \"You are the environment, which moves first: choose what the controller reads, and it answers in the same step.\",\n\
-\x20\x20\x20\x20\"system Moore\": \"The controller moves first, by its state alone; then you, the environment, choose what it reads.\",\n\
-\x20\x20\x20\x20\"environment Mealy\": \"You are the controller and move first: choose your outputs, and the environment answers in the same step.\",\n\
+\x20\x20\x20\x20\"system Moore\": \"The controller moves first, by its state alone; then you, the environment, choose what it reads.\",\n"
+}
+
+fn back_14() -> &'static str {
+    "\x20\x20\x20\x20\"environment Mealy\": \"You are the controller and move first: choose your outputs, and the environment answers in the same step.\",\n\
 \x20\x20\x20\x20\"environment Moore\": \"The environment moves first, by its state alone; then you, the controller, choose your outputs.\",\n\
 \x20\x20};\n\
 \x20\x20find(\"ask\").textContent = machine.inputs.length === 0 ? \"It reads nothing.\" : turns[`${machine.side} ${machine.kind}`] || \"Choose what it reads.\";\n\
 }\n\
 \n\
-const promises = machine.formulas.map(promiseOf);\n\
+const promises = machine.formulas.flatMap(memberLines).map(promiseOf);\n\
 \n\
 function buildPromises() {\n\
 \x20\x20[[true, \"Assumptions on the environment\"], [false, \"Guarantees of the controller\"]].forEach(([isAssumed, words]) => {\n\
@@ -639,14 +769,16 @@ function build() {\n\
 \x20\x20find(\"what\").textContent = machine.title ? words : \"\";\n\
 \x20\x20document.title = find(\"title\").textContent;\n\
 \x20\x20find(\"verdict\").textContent = machine.verdict;\n\
-\x20\x20find(\"writes-word\").textContent = isCounter ? \"The environment writes\" : \"Writes\";\n"
+\x20\x20find(\"writes-word\").textContent = isCounter ? \"The environment writes\" : \"Writes\";\n\
+\x20\x20// (a machine of one state has no smaller ones)\n\
+\x20\x20paragraphs(\"sizes\", machine.sizes.length || count === 1 ? machine.sizes : [\"No smaller size was looked at.\"]);\n\
+\x20\x20find(\"knowledge\").hidden = machine.sizes.length === 0 && count === 1;\n\
+\x20\x20buildPromises();\n\
+\x20\x20buildInputs();\n"
 }
 
-fn back_12() -> &'static str {
-    "\x20\x20paragraphs(\"sizes\", machine.sizes.length ? machine.sizes : [\"No smaller size was looked at.\"]);\n\
-\x20\x20buildPromises();\n\
-\x20\x20buildInputs();\n\
-\x20\x20buildTable();\n\
+fn back_15() -> &'static str {
+    "\x20\x20buildTable();\n\
 \x20\x20drawGraph();\n\
 \x20\x20[\"step\", \"back\", \"reset\", \"random\"].forEach((name) => find(name).addEventListener(\"click\", () => act(name)));\n\
 \x20\x20document.addEventListener(\"keydown\", (event) => {\n\
@@ -665,7 +797,7 @@ build();\n\
 }
 
 /// What stands behind the machine.
-pub(crate) fn back() -> [&'static str; 13] {
+pub(crate) fn back() -> [&'static str; 16] {
     [
         back_0(),
         back_1(),
@@ -680,5 +812,8 @@ pub(crate) fn back() -> [&'static str; 13] {
         back_10(),
         back_11(),
         back_12(),
+        back_13(),
+        back_14(),
+        back_15(),
     ]
 }

@@ -39,17 +39,11 @@ pub(crate) struct Longer {
     pub(crate) circuit: Option<Circuit>,
 }
 
-impl Longer {
-    /// No more than before, and why.
-    fn nothing(solution: Solution, why: RefutingEnd, circuit: Option<Circuit>) -> Longer {
-        Longer {
-            reply: None,
-            solution: Solution {
-                refuted: nothing(why),
-                ..solution
-            },
-            circuit,
-        }
+/// What is told where no log stands with the document, and why.
+fn without_logs(solution: Solution, why: RefutingEnd) -> Solution {
+    Solution {
+        refuted: nothing(why),
+        ..solution
     }
 }
 
@@ -70,7 +64,11 @@ pub(crate) fn with_logs<R: Threads + Wait + Sync, G: Gate + Sync, D: Deadline + 
     let solution = plain.solution;
     match make_longer(rt, alloc, text, plain, below, refuting, gate, deadlines) {
         Ok(longer) => longer,
-        Err(_) => Longer::nothing(solution, RefutingEnd::NoMemory, None),
+        Err(_) => Longer {
+            reply: None,
+            solution: without_logs(solution, RefutingEnd::NoMemory),
+            circuit: None,
+        },
     }
 }
 
@@ -160,7 +158,11 @@ fn kept(
     let solution = plain.solution;
     let sizes = logs.len();
     if sizes == 0 {
-        return Ok(Longer::nothing(solution, end, plain.document.circuit));
+        return Ok(Longer {
+            reply: None,
+            solution: without_logs(solution, end),
+            circuit: plain.document.circuit,
+        });
     }
     let mut document = plain.document;
     document.logs = logs;
@@ -173,10 +175,11 @@ fn kept(
             },
             circuit: document.circuit,
         }),
-        Err(line) => {
-            let why = RefutingEnd::BadLine(line);
-            Ok(Longer::nothing(solution, why, document.circuit))
-        }
+        Err(line) => Ok(Longer {
+            reply: None,
+            solution: without_logs(solution, RefutingEnd::BadLine(line)),
+            circuit: document.circuit,
+        }),
     }
 }
 

@@ -6,10 +6,11 @@ use crate::base::{Over, base_of};
 use crate::dimacs::push_formula;
 use crate::entries::{push_drat, push_lrat};
 use crate::faults::TextFault;
+use crate::solved_files::files_of_solved;
 use document_check::counts_for;
-use document_text::{Document, LogPart};
+use document_text::Document;
 use letters_and_lassos::Side;
-use machine_table::{ShowFault, Shown};
+use machine_table::{ShowFault, Shown, ShownLog};
 use program_replies::refused;
 use propositional_logic::Cnf;
 use spec_faults::SpecFault;
@@ -17,8 +18,6 @@ use spec_problems::text_problems;
 use std::alloc::{AllocError, Global};
 use text_ground::facts_of;
 use text_limits::SMALL_LIMITS;
-
-const NO_BASE: &str = "its logs are over base clauses of version 4, which aren't written";
 
 /// A file, and what stands behind a prefix in its name.
 #[derive(Drop)]
@@ -28,19 +27,18 @@ pub struct ProofFile {
 }
 
 /// For each log of a document its base clauses in DIMACS form (`.cnf`), its entries in LRAT (`.lrat`) and their clauses in DRAT (`.drat`).
-/// The names of a log that isn't closed say that it is no refutation. The entries themselves aren't tested. A document of version 6 with logs is
-/// refused, since its base clauses aren't made here.
+/// The names of a log that isn't closed say that it is no refutation. The entries themselves aren't tested.
 pub fn proof_files(alloc: Global, shown: &Shown, text: &[u8]) -> Result<Vec<ProofFile>, TextFault> {
     match shown {
-        Shown::Document(document) => files_of_document(alloc, document, text),
-        Shown::Solved(document) if document.logs.is_empty() => Ok(Vec::new(alloc)),
-        Shown::Solved(_) => Err(TextFault::NoSuchForm(NO_BASE)),
+        Shown::Document(document) => files_of_document(alloc, shown, document, text),
+        Shown::Solved(document) => files_of_solved(alloc, shown, document, text),
         Shown::Circuit(_) => Err(TextFault::NotShown(ShowFault::NoSuchDocument)),
     }
 }
 
 fn files_of_document(
     alloc: Global,
+    shown: &Shown,
     document: &Document,
     text: &[u8],
 ) -> Result<Vec<ProofFile>, TextFault> {
@@ -58,15 +56,17 @@ fn files_of_document(
         kind,
         version,
     };
-    files_of(alloc, over, &document.logs)
+    files_of(alloc, over, shown)
 }
 
-fn files_of(alloc: Global, over: Over<'_>, logs: &[LogPart]) -> Result<Vec<ProofFile>, TextFault>
+fn files_of(alloc: Global, over: Over<'_>, shown: &Shown) -> Result<Vec<ProofFile>, TextFault>
     requires { AreFactsFor over.version (facts_seen over.facts) }
 {
     let mut files = Vec::new(alloc);
-    for log in logs {
-        push_files(alloc, over, log, &mut files)?;
+    for place in 0..shown.log_count() {
+        if let Some(log) = shown.log(place) {
+            push_files(alloc, over, log, &mut files)?;
+        }
     }
     Ok(files)
 }
@@ -74,7 +74,7 @@ fn files_of(alloc: Global, over: Over<'_>, logs: &[LogPart]) -> Result<Vec<Proof
 fn push_files(
     alloc: Global,
     over: Over<'_>,
-    log: &LogPart,
+    log: ShownLog<'_>,
     files: &mut Vec<ProofFile>,
 ) -> Result<(), TextFault>
     requires { AreFactsFor over.version (facts_seen over.facts) }
@@ -85,33 +85,43 @@ fn push_files(
     let Some(base) = base_of(alloc, over, log.side, log.size)? else {
         return Err(TextFault::NotShown(ShowFault::OtherText(log.line)));
     };
+    push_log(alloc, &base, log, files)
+}
+
+/// The files of a log, if it has as many variables and base clauses as it says.
+pub(crate) fn push_log(
+    alloc: Global,
+    base: &Cnf,
+    log: ShownLog<'_>,
+    files: &mut Vec<ProofFile>,
+) -> Result<(), TextFault> {
     if base.vars != log.vars || base.clauses.len() as u64 != log.base {
         return Err(TextFault::NotShown(ShowFault::OtherText(log.line)));
     }
-    push_three(alloc, &base, log, files)?;
+    push_three(alloc, base, log, files)?;
     Ok(())
 }
 
 fn push_three(
     alloc: Global,
     base: &Cnf,
-    log: &LogPart,
+    log: ShownLog<'_>,
     files: &mut Vec<ProofFile>,
 ) -> Result<(), AllocError> {
     let mut bytes = Vec::new(alloc);
     push_formula(base, &mut bytes)?;
     push_file(alloc, log, "cnf", bytes, files)?;
     let mut bytes = Vec::new(alloc);
-    push_lrat(log.base, &log.entries, &mut bytes)?;
+    push_lrat(log.base, log.entries, &mut bytes)?;
     push_file(alloc, log, "lrat", bytes, files)?;
     let mut bytes = Vec::new(alloc);
-    push_drat(&log.entries, &mut bytes)?;
+    push_drat(log.entries, &mut bytes)?;
     push_file(alloc, log, "drat", bytes, files)
 }
 
 fn push_file(
     alloc: Global,
-    log: &LogPart,
+    log: ShownLog<'_>,
     form: &str,
     bytes: Vec<u8>,
     files: &mut Vec<ProofFile>,
@@ -127,7 +137,7 @@ fn push_file(
     Ok(())
 }
 
-fn is_closed(log: &LogPart) -> bool {
+fn is_closed(log: ShownLog<'_>) -> bool {
     log.entries
         .last()
         .is_some_and(|entry| entry.clause.lits().is_empty())

@@ -1,0 +1,4 @@
+pub mod Order
+pub mod Logs
+pub mod Faults
+pub mod Kept
