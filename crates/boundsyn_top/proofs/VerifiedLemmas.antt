@@ -33,9 +33,9 @@ module _ (law : AcceptedAreVerified) where
           verified = law.controllers text kind bytes p.document n p.accepted p.verdict_is line ends
               (verified_as System kind files spec circuit text bytes line ends both answered);
         }
-    controller_well status is (answers.refused code at ended first line) = absurd (omega (arith, is, ended))
-    controller_well status is (answers.unrealizable n ended p) = absurd (omega (arith, is, ended))
-    controller_well status is (answers.unknown ended p) = absurd (omega (arith, is, ended))
+    controller_well status is (answers.refused code at ended first line) files spec circuit told ends both answered = absurd (omega (arith, is, ended))
+    controller_well status is (answers.unrealizable n ended p) files spec circuit told ends both answered = absurd (omega (arith, is, ended))
+    controller_well status is (answers.unknown ended p) files spec circuit told ends both answered = absurd (omega (arith, is, ended))
 
     counter_well : (status : ℕ) → status ≡ 20 → SolveAnswers text kind limits bytes status → IsVerifiedWell Environment text kind bytes
     counter_well status is (answers.unrealizable n ended p) files spec circuit line ends both answered =
@@ -45,9 +45,9 @@ module _ (law : AcceptedAreVerified) where
           verified = law.counter_strategies text kind bytes p.document n p.accepted p.verdict_is line ends
               (verified_as Environment kind files spec circuit text bytes line ends both answered);
         }
-    counter_well status is (answers.refused code at ended first line) = absurd (omega (arith, is, ended))
-    counter_well status is (answers.realizable n ended p) = absurd (omega (arith, is, ended))
-    counter_well status is (answers.unknown ended p) = absurd (omega (arith, is, ended))
+    counter_well status is (answers.refused code at ended first line) files spec circuit told ends both answered = absurd (omega (arith, is, ended))
+    counter_well status is (answers.realizable n ended p) files spec circuit told ends both answered = absurd (omega (arith, is, ended))
+    counter_well status is (answers.unknown ended p) files spec circuit told ends both answered = absurd (omega (arith, is, ended))
 
   solved_as : (files : Files) (spec bytes : List ℕ) (kind : Option Kind) (refutations : Refutations) (status : ℕ)
       → AnswersAsked (Some files) (solve spec kind refutations) bytes status → SolveAnswers (bytes_under files spec) kind (limits_by refutations) bytes status

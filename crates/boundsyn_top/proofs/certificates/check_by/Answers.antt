@@ -4,15 +4,15 @@ use Rattle.boundsyn_top.proofs.certificates.check_by.Goals as goal
 
 pub returns-in-Taken-clause-reply : goal.returns-in-Taken-clause-reply
 returns-in-Taken-clause-reply g c =
-    let taken = rw c.in-Taken.is at c.in_ok-found.ensures in
+    let taken = rw c.in-Taken.is at c.in_ok-text_for_check.ensures in
     c.checked.ensures.reply taken (takes_certificates c.args.text.now taken)
 
 pub returns-in-Taken-clause-other_files : goal.returns-in-Taken-clause-other_files
 returns-in-Taken-clause-other_files g c = λ name differs.
-    let taken = rw c.in-Taken.is at c.in_ok-found.ensures in
+    let taken = rw c.in-Taken.is at c.in_ok-text_for_check.ensures in
     c.checked.ensures.other_files name (differs (takes_certificates c.args.text.now taken))
 
 pub returns-in-Refused-clause-reply : goal.returns-in-Refused-clause-reply
 returns-in-Refused-clause-reply g c =
-    let all = rw c.in-Refused.is at c.in_ok-found.ensures in
+    let all = rw c.in-Refused.is at c.in_ok-text_for_check.ensures in
     whatever _ c.args.certificate.now _ _ _ _ _ refl all
