@@ -1,5 +1,6 @@
 -- What a reply owes to a text, as `solve` answers it.
-use Rattle.std.proofs.Common.{◌≡◌, ℕ, List, length, sym, ◌∙◌, ap, subst, Global, map}
+use Rattle.std.proofs.Common.{◌≡◌, ℕ, List, [], ◌∷◌, ◌++◌, All, length, refl, sym, ◌∙◌, ap, subst, Global, map}
+use Rattle.std.proofs.lemmas.List.Elements.{All-rest}
 use Rattle.std.specs.Prelude.{IfOk, Result, Ok, Err, Vec}
 use Rattle.program_replies.specs.Lines.{refusal_line}
 use Rattle.program_replies.specs.Statuses.{status_number}
@@ -15,6 +16,7 @@ use Rattle.batch_answer.specs.declared.texts.TakenText.TheVariants.{Whole, TooLo
 use Rattle.batch_answer.specs.Taken.{AreTexts}
 use Rattle.batch_answer.specs.Batch.{batch_text, part_of}
 use Rattle.batch_answer.proofs.ReplyLemmas.{as_many, parts_many, reply_at, text_at}
+use Rattle.batch_run.proofs.AnswerLemmas.{all-first}
 use Rattle.batch_run.specs.Answers.{AreAnswers}
 use Rattle.solve_batch.specs.SolvedBatch.{AskedOfEach, IsSolvedPart, IsSolvedReply, SolvedBatchAnswers}
 
@@ -56,3 +58,14 @@ solved_answers names texts asked job replies bytes one_each is answered text fil
   };
   text = text;
 }
+
+-- == what the last of some elements has ==
+
+all-last : {X : Type 0} (P : X → Type 0) (ys : List X) (x : X) → All P (ys ++ x ∷ []) → P x
+all-last P [] x all = all-first P (x ∷ []) x [] refl all
+all-last P (y ∷ ys) x all = all-last P ys x (All-rest P y (ys ++ x ∷ []) (y ∷ (ys ++ x ∷ [])) refl all)
+
+pub last-holds : {X : Type 0} (P : X → Type 0) (xs ys : List X) (x : X) → xs ≡ ys ++ x ∷ [] → All P xs → P x
+last-holds {X} P xs ys x is all =
+    let Q : List X → Type 0 = All P in
+    all-last P ys x (subst Q is all)

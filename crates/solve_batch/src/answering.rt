@@ -1,5 +1,5 @@
 //! The answer to many texts.
-ghost use Rattle.std.specs.Prelude.{◌≡◌, ◌^◌, ◌<◌, ◌≤◌, ℕ, List, IfOk, length};
+ghost use Rattle.std.specs.Prelude.{◌≡◌, ◌^◌, ◌<◌, ◌≤◌, ℕ, All, List, IfOk, length};
 ghost use Rattle.batch_answer.specs.Taken.{AreTexts};
 ghost use Rattle.batch_run.specs.Answers.{AreAnswers};
 ghost use Rattle.solve_answer.specs.Parts.{limits_of};
@@ -69,17 +69,100 @@ fn answer_all<R: Threads + Wait + Sync, G: Gate + Sync, S: Stopwatch + Sync>(
     if refuting.seconds.is_none() {
         return run_all(rt, alloc, job, texts, workers, gate);
     }
-    let ((), replies) = thread::join(
+    let ends = thread_ends(rt, alloc, job, texts, workers, gate, stopwatch, time)?;
+    last_of(job, texts, ends)
+}
+
+/// What one of two threads does.
+#[derive(Clone, Copy)]
+enum Part {
+    Time,
+    Texts,
+}
+
+/// What comes of two threads: of the one that tells the time nothing, and behind it the answers.
+fn thread_ends<R: Threads + Wait + Sync, G: Gate + Sync, S: Stopwatch + Sync>(
+    rt: &R,
+    alloc: Global,
+    job: &Solving<'_>,
+    texts: &[TakenText],
+    workers: u32,
+    gate: &G,
+    stopwatch: &S,
+    time: &SharedTime,
+) -> Result<Vec<Result<Vec<ToldReply>, AllocError>>, AllocError>
+    requires few { length texts.now < 2 ^ 32 }
+    requires workers { 1 ≤ workers }
+    ensures { IfOk result (λ ends. All (λ end. IfOk end (λ replies. AreAnswers (IsSolvedReply job.now) texts.now replies.items)) ends.items) }
+{
+    let mut parts = Vec::new(alloc);
+    parts.push(Part::Time)?;
+    parts.push(Part::Texts)?;
+    thread::map_vec(
         rt,
-        || time.follow(rt, stopwatch),
-        || -> Result<Vec<ToldReply>, AllocError>
-            requires { (1 ≤ workers) × (length texts.now < 2 ^ 32) }
+        parts,
+        &|part: Part| -> Result<Vec<ToldReply>, AllocError>
+            requires { (length texts.now < 2 ^ 32) × (1 ≤ workers) }
             ensures { IfOk result (λ replies. AreAnswers (IsSolvedReply job.entry.now) texts.entry.now replies.items) }
-        {
-            let replies = run_all(rt, alloc, job, texts, workers, gate);
-            time.stop();
-            replies
-        },
-    );
+        { end_of(rt, alloc, job, texts, workers, gate, stopwatch, time, part) },
+    )
+}
+
+/// What comes of one thread.
+fn end_of<R: Threads + Wait + Sync, G: Gate + Sync, S: Stopwatch + Sync>(
+    rt: &R,
+    alloc: Global,
+    job: &Solving<'_>,
+    texts: &[TakenText],
+    workers: u32,
+    gate: &G,
+    stopwatch: &S,
+    time: &SharedTime,
+    part: Part,
+) -> Result<Vec<ToldReply>, AllocError>
+    requires few { length texts.now < 2 ^ 32 }
+    requires workers { 1 ≤ workers }
+    ensures { IfOk result (λ replies. AreAnswers (IsSolvedReply job.now) texts.now replies.items) }
+{
+    match part {
+        Part::Time => {
+            time.follow(rt, stopwatch);
+            Err(AllocError)
+        }
+        Part::Texts => run_told(rt, alloc, job, texts, workers, gate, time),
+    }
+}
+
+/// The answers, which the last thread gives.
+fn last_of(
+    _job: &Solving<'_>,
+    _texts: &[TakenText],
+    mut ends: Vec<Result<Vec<ToldReply>, AllocError>>,
+) -> Result<Vec<ToldReply>, AllocError>
+    requires { All (λ end. IfOk end (λ replies. AreAnswers (IsSolvedReply _job.now) _texts.now replies.items)) ends.items }
+    ensures { IfOk result (λ replies. AreAnswers (IsSolvedReply _job.now) _texts.now replies.items) }
+{
+    match ends.pop() {
+        Some(replies) => replies,
+        None => Err(AllocError),
+    }
+}
+
+/// The answers to all texts, behind which nobody asks for the time any more.
+fn run_told<R: Threads + Wait + Sync, G: Gate + Sync>(
+    rt: &R,
+    alloc: Global,
+    job: &Solving<'_>,
+    texts: &[TakenText],
+    workers: u32,
+    gate: &G,
+    time: &SharedTime,
+) -> Result<Vec<ToldReply>, AllocError>
+    requires few { length texts.now < 2 ^ 32 }
+    requires workers { 1 ≤ workers }
+    ensures { IfOk result (λ replies. AreAnswers (IsSolvedReply job.now) texts.now replies.items) }
+{
+    let replies = run_all(rt, alloc, job, texts, workers, gate);
+    time.stop();
     replies
 }
