@@ -221,25 +221,32 @@ pub(crate) fn text_answer<R: Files>(
 }
 
 /// A line for each thing that the text of a file says and that is seldom meant.
-pub(crate) fn lint_answer<R: Files>(rt: &R, alloc: Global, name: &str) -> Result<Vec<u8>, Fault> {
+pub(crate) fn lint_answer<R: Files>(rt: &R, alloc: Global, name: &str) -> Result<SpecText, Fault> {
     let bytes = bytes_of(rt, alloc, name)?;
     let file = File {
         name,
         bytes: &bytes,
     };
-    told(alloc, lint_text(alloc, file), file)
+    match lint_text(alloc, file) {
+        Ok(text) => Ok(text),
+        Err(fault) => Err(Fault::of(alloc, fault, file)?),
+    }
 }
 
-fn lint_text(alloc: Global, file: File<'_>) -> Result<Vec<u8>, TextFault> {
+fn lint_text(alloc: Global, file: File<'_>) -> Result<SpecText, TextFault> {
     // Of a text that is refused nothing is said but its fault.
-    let _about = Told::of(alloc, file.bytes, None)?;
+    let about = Told::of(alloc, file.bytes, None)?;
     let mut shown = String::new(alloc);
     push_shown(alloc, file.name.as_bytes(), &mut shown)?;
     let mut out = Text::new(alloc);
     for lint in &lint_of(alloc, file.bytes)? {
         push_lint(&mut out, &shown, lint);
     }
-    Ok(out.finish()?)
+    Ok(SpecText {
+        bytes: out.finish()?,
+        taken: about.taken,
+        note: None,
+    })
 }
 
 /// The line of one such thing.

@@ -10,7 +10,7 @@ mod words;
 use answers::{lint_answer, machine_answer, text_answer};
 use faults::{Fault, USAGE};
 use options::{Given, WordsFault};
-use spec_texts::Form;
+use spec_texts::SpecText;
 use std::alloc::Global;
 use std::env;
 use std::io::{ErrorKind, Write};
@@ -49,17 +49,22 @@ fn answer(rt: &HostRuntime, alloc: Global, task: Task<'_>) -> Result<(), Fault> 
             Ok(())
         }
         Task::Machine(task) => write_out(rt, alloc, &machine_answer(rt, alloc, task)?),
-        Task::Text(name, form) => write_text(rt, alloc, name, form),
-        Task::Lint(name) => write_out(rt, alloc, &lint_answer(rt, alloc, name)?),
+        Task::Text(name, form) => write_text(rt, alloc, &text_answer(rt, alloc, name, form)?),
+        Task::Lint(name) => write_text(rt, alloc, &lint_answer(rt, alloc, name)?),
     }
 }
 
-fn write_text(rt: &HostRuntime, alloc: Global, name: &str, form: Form) -> Result<(), Fault> {
-    let text = text_answer(rt, alloc, name, form)?;
-    if let Some(note) = text.note {
+/// Writes a text, and before that what a reader should know of it.
+fn write_text(rt: &HostRuntime, alloc: Global, text: &SpecText) -> Result<(), Fault> {
+    write_note(rt, text.taken);
+    write_note(rt, text.note);
+    write_out(rt, alloc, &text.bytes)
+}
+
+fn write_note(rt: &HostRuntime, note: Option<&str>) {
+    if let Some(note) = note {
         let _ = eprintln!(rt; "boundsyn-show: note: {note}");
     }
-    write_out(rt, alloc, &text.bytes)
 }
 
 fn write_out(rt: &HostRuntime, alloc: Global, bytes: &[u8]) -> Result<(), Fault> {

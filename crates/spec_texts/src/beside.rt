@@ -1,4 +1,4 @@
-//! A text as the document beside it takes it.
+//! A text as it is taken, alone or beside a document.
 
 ghost use Rattle.std.specs.Prelude.{IfOk};
 ghost use Rattle.flat_lines.specs.FlatLines.{CanBeWritten};
@@ -14,26 +14,97 @@ use letters_and_lassos::Kind;
 use machine_table::{ShowFault, Shown};
 use program_replies::refused;
 use spec_faults::SpecFault;
-use std::alloc::Global;
+use std::alloc::{AllocError, Global};
 use text_limits::LARGE_LIMITS;
 use tlsf_expand::Spec;
+use tlsf_reader::read;
 
-/// The flat text: as `expand` takes it, or beside a document of version 6 for machines of its kind, within the limits of `solve`.
-pub(crate) fn flat_beside(
+const BY_SOLVE: &str = "`boundsyn solve` takes this text, `synth` doesn't";
+
+const WITH_INPUTS: &str =
+    "`boundsyn solve` takes this text, `synth` doesn't; its SEMANTICS is Moore and its TARGET Mealy, so X stands before each input";
+
+const WITH_OUTPUTS: &str =
+    "`boundsyn solve` takes this text, `synth` doesn't; its SEMANTICS is Mealy and its TARGET Moore, so X stands before each output";
+
+/// A text that is taken.
+#[derive(Drop)]
+pub(crate) struct Taken {
+    pub(crate) spec: Spec,
+    /// Which of its signals are those of the next step.
+    pub(crate) shift: Option<Shift>,
+    /// What a reader should know of how it was taken.
+    pub(crate) note: Option<&'static str>,
+}
+
+/// The kinds that a text names.
+#[derive(Clone, Copy)]
+struct Kinds {
+    semantics: Kind,
+    target: Kind,
+}
+
+/// A text as `expand` takes it, or where that refuses it as `solve` does, which has larger limits and takes two kinds. Beside a document of version 6 it
+/// is taken for machines of its kind, as `solve` does, and beside one of another version as `expand` does.
+pub(crate) fn take_text(
     alloc: Global,
     text: &[u8],
     beside: Option<&Shown>,
-) -> Result<Spec, TextFault>
-    ensures writable { IfOk result (λ spec. CanBeWritten (spec_seen spec)) }
-    ensures stands { IfOk result (λ spec. IsNodeIn spec.formulas spec.whole) }
+) -> Result<Taken, TextFault>
+    ensures writable { IfOk result (λ taken. CanBeWritten (spec_seen taken.spec)) }
+    ensures stands { IfOk result (λ taken. IsNodeIn taken.spec.formulas taken.spec.whole) }
 {
     if let Some(Shown::Solved(document)) = beside {
-        return flat_of_kind(alloc, text, document.kind);
+        let shift = match document.semantics {
+            Some(semantics) => shift_of(semantics, document.kind),
+            None => None,
+        };
+        return taken_for(alloc, text, document.kind, shift, None);
     }
     match expanded(alloc, text)? {
-        Expansion::Flat(spec) => Ok(spec),
-        Expansion::Refused(reply) => Err(TextFault::Refused(reply.bytes)),
+        Expansion::Flat(spec) => Ok(Taken {
+            spec,
+            shift: None,
+            note: None,
+        }),
+        Expansion::Refused(reply) => taken_by_solve(alloc, text, beside, reply.bytes),
     }
+}
+
+/// A text that `expand` refuses with this line, by its own kinds within the limits of `solve`. Where a document is beside it the text isn't
+/// taken, since `synth` has written that.
+fn taken_by_solve(
+    alloc: Global,
+    text: &[u8],
+    beside: Option<&Shown>,
+    refusal: Vec<u8>,
+) -> Result<Taken, TextFault>
+    ensures writable { IfOk result (λ taken. CanBeWritten (spec_seen taken.spec)) }
+    ensures stands { IfOk result (λ taken. IsNodeIn taken.spec.formulas taken.spec.whole) }
+{
+    if let Some(Shown::Document(_)) = beside {
+        return Err(TextFault::Refused(refusal));
+    }
+    let Some(kinds) = kinds_of(alloc, text)? else {
+        return Err(TextFault::Refused(refusal));
+    };
+    let note = Some(kinds.note());
+    taken_for(alloc, text, kinds.target, kinds.shift(), note)
+}
+
+/// The text for machines of a kind, within the limits of `solve`.
+fn taken_for(
+    alloc: Global,
+    text: &[u8],
+    kind: Kind,
+    shift: Option<Shift>,
+    note: Option<&'static str>,
+) -> Result<Taken, TextFault>
+    ensures writable { IfOk result (λ taken. CanBeWritten (spec_seen taken.spec)) }
+    ensures stands { IfOk result (λ taken. IsNodeIn taken.spec.formulas taken.spec.whole) }
+{
+    let spec = flat_of_kind(alloc, text, kind)?;
+    Ok(Taken { spec, shift, note })
 }
 
 fn flat_of_kind(alloc: Global, text: &[u8], kind: Kind) -> Result<Spec, TextFault>
@@ -50,16 +121,40 @@ fn flat_of_kind(alloc: Global, text: &[u8], kind: Kind) -> Result<Spec, TextFaul
     }
 }
 
-/// Which signals of the text are those of the next step for the machine of the document.
-pub(crate) fn shift_beside(beside: Option<&Shown>) -> Option<Shift> {
-    match beside {
-        Some(Shown::Solved(document)) => shift_of(document.semantics?, document.kind),
-        _ => None,
+/// None where the text can't be read.
+fn kinds_of(alloc: Global, text: &[u8]) -> Result<Option<Kinds>, AllocError> {
+    match read(alloc, text) {
+        Ok(tree) => Ok(Some(Kinds {
+            semantics: tree.info.semantics,
+            target: tree.info.target,
+        })),
+        Err(SpecFault::NoMemory) => Err(AllocError),
+        Err(SpecFault::At { .. }) => Ok(None),
     }
 }
 
-/// The number of a text's inputs; a letter has at most 32 signals.
-pub(crate) fn input_count(spec: &Spec) -> u32 {
-    let count = spec.inputs.len();
-    if count < 64 { count as u32 } else { 64 }
+impl Kinds {
+    fn shift(self) -> Option<Shift> {
+        shift_of(self.semantics, self.target)
+    }
+
+    fn note(self) -> &'static str {
+        match (self.semantics, self.target) {
+            (Kind::Moore, Kind::Mealy) => WITH_INPUTS,
+            (Kind::Mealy, Kind::Moore) => WITH_OUTPUTS,
+            _ => BY_SOLVE,
+        }
+    }
+}
+
+impl Taken {
+    /// Whether a signal, by its number, is one of the next step. A letter has at most 32 signals.
+    pub(crate) fn is_shifted(&self, signal: u32) -> bool {
+        let inputs = self.spec.inputs.len();
+        let inputs = if inputs < 64 { inputs as u32 } else { 64 };
+        match self.shift {
+            Some(shift) => shift.takes(inputs, signal),
+            None => false,
+        }
+    }
 }

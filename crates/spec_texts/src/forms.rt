@@ -4,13 +4,12 @@ ghost use Rattle.flat_lines.specs.FlatLines.{CanBeWritten};
 ghost use Rattle.ltl_formula.specs.Nodes.{IsNodeIn};
 ghost use Rattle.tlsf_expand.specs.FlatText.{spec_seen};
 
+use crate::beside::{Taken, take_text};
 use crate::faults::TextFault;
 use crate::infix::put_ltl;
 use crate::tlsf::{put_apart, put_dual, put_same};
-use flat_answer::{Expansion, expanded};
 use machine_table::Text;
 use std::alloc::Global;
-use tlsf_expand::Spec;
 
 /// What is written of a text.
 #[derive(Clone, Copy)]
@@ -25,33 +24,35 @@ pub enum Form {
     Dual,
 }
 
-/// A text, and what a reader should know of it.
+/// What is written, and what a reader should know: how the text was taken, and what of it stays as it is.
 #[derive(Drop)]
 pub struct SpecText {
     pub bytes: Vec<u8>,
+    pub taken: Option<&'static str>,
     pub note: Option<&'static str>,
 }
 
 /// Writes a text in one of these forms. A formula can be exponentially longer there; one that is too long is want of memory.
 pub fn spec_text(alloc: Global, text: &[u8], form: Form) -> Result<SpecText, TextFault> {
-    match expanded(alloc, text)? {
-        Expansion::Flat(spec) => written(alloc, &spec, form),
-        Expansion::Refused(reply) => Err(TextFault::Refused(reply.bytes)),
-    }
+    let taken = take_text(alloc, text, None)?;
+    written(alloc, &taken, form)
 }
 
-fn written(alloc: Global, spec: &Spec, form: Form) -> Result<SpecText, TextFault>
-    requires writable { CanBeWritten (spec_seen spec.now) }
-    requires stands { IsNodeIn spec.now.formulas spec.now.whole }
+fn written(alloc: Global, taken: &Taken, form: Form) -> Result<SpecText, TextFault>
+    requires writable { CanBeWritten (spec_seen taken.now.spec) }
+    requires stands { IsNodeIn taken.now.spec.formulas taken.now.spec.whole }
 {
     let mut out = Text::new(alloc);
     let mut note = None;
     match form {
-        Form::Ltl => put_ltl(alloc, spec, &mut out)?,
-        Form::Tlsf => put_same(alloc, spec, &mut out)?,
-        Form::Apart => note = put_apart(alloc, spec, &mut out)?,
-        Form::Dual => put_dual(alloc, spec, &mut out)?,
+        Form::Ltl => put_ltl(alloc, taken, &mut out)?,
+        Form::Tlsf => put_same(alloc, taken, &mut out)?,
+        Form::Apart => note = put_apart(alloc, taken, &mut out)?,
+        Form::Dual => put_dual(alloc, taken, &mut out)?,
     }
-    let bytes = out.finish()?;
-    Ok(SpecText { bytes, note })
+    Ok(SpecText {
+        bytes: out.finish()?,
+        taken: taken.note,
+        note,
+    })
 }

@@ -16,6 +16,7 @@ mod forms;
 mod infix;
 mod plain_names;
 mod sections;
+mod shifted;
 mod smv;
 mod smv_names;
 mod solved_files;

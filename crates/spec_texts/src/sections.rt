@@ -1,8 +1,10 @@
-//! The formulas of a flat text, section by section, as text.
+//! The formulas of a text, section by section, as text.
 
 ghost use Rattle.flat_lines.specs.FlatLines.{CanBeWritten};
 ghost use Rattle.tlsf_expand.specs.FlatText.{spec_seen};
 
+use crate::beside::Taken;
+use crate::shifted::{shifted_lines, shifted_names};
 use flat_lines::put_flat;
 use input_output::PlainSink;
 use machine_table::Text;
@@ -49,44 +51,34 @@ pub(crate) const GUARANTEE: SectionWords = SectionWords {
     word: "GUARANTEE",
 };
 
-/// The lines of a flat text.
+/// A line for each formula of a text, behind the word of its section.
 #[derive(Drop)]
 pub(crate) struct FlatLines {
-    sink: PlainSink,
+    lines: Vec<String>,
 }
 
 impl FlatLines {
-    pub(crate) fn of(alloc: Global, spec: &Spec) -> Result<FlatLines, AllocError>
-        requires { CanBeWritten (spec_seen spec.now) }
+    pub(crate) fn of(alloc: Global, taken: &Taken) -> Result<FlatLines, AllocError>
+        requires { CanBeWritten (spec_seen taken.now.spec) }
     {
-        let mut sink = PlainSink::new(alloc);
-        match put_flat(alloc, spec, &mut sink) {
-            Ok(()) => Ok(FlatLines { sink }),
-            Err(_) => Err(AllocError),
+        let lines = lines_of(alloc, &taken.spec)?;
+        if taken.shift.is_none() {
+            return Ok(FlatLines { lines });
         }
+        let names = shifted_names(alloc, taken)?;
+        Ok(FlatLines {
+            lines: shifted_lines(alloc, &lines, &names)?,
+        })
     }
 
-    /// A line for each formula, behind the word of its section.
-    pub(crate) fn lines(&self, alloc: Global) -> Result<Vec<String>, AllocError> {
-        let mut lines = Vec::new(alloc);
-        for line in self
-            .sink
-            .bytes()
-            .split(|byte| *byte == b'\n')
-            .skip(LINES_BEFORE)
-        {
-            if !line.is_empty() {
-                lines.push(string_of(alloc, line)?)?;
-            }
-        }
-        Ok(lines)
+    pub(crate) fn into_lines(self) -> Vec<String> {
+        self.lines
     }
 
     pub(crate) fn has(&self, section: SectionWords) -> bool {
-        self.sink
-            .bytes()
-            .split(|byte| *byte == b'\n')
-            .any(|line| line.starts_with(section.front))
+        self.lines
+            .iter()
+            .any(|line| line.as_bytes().starts_with(section.front))
     }
 
     /// Puts a section, where it has formulas.
@@ -106,8 +98,8 @@ impl FlatLines {
         behind: &str,
         out: &mut Text,
     ) {
-        for line in self.sink.bytes().split(|byte| *byte == b'\n') {
-            if let Some(formula) = line.strip_prefix(section.front) {
+        for line in &self.lines {
+            if let Some(formula) = line.as_bytes().strip_prefix(section.front) {
                 out.put("    ");
                 out.put(before);
                 out.put_bytes(formula);
@@ -122,6 +114,22 @@ pub(crate) fn put_opened(section: SectionWords, out: &mut Text) {
     out.put("  ");
     out.put(section.word);
     out.put(" {\n");
+}
+
+fn lines_of(alloc: Global, spec: &Spec) -> Result<Vec<String>, AllocError>
+    requires { CanBeWritten (spec_seen spec.now) }
+{
+    let mut sink = PlainSink::new(alloc);
+    if put_flat(alloc, spec, &mut sink).is_err() {
+        return Err(AllocError);
+    }
+    let mut lines = Vec::new(alloc);
+    for line in sink.bytes().split(|byte| *byte == b'\n').skip(LINES_BEFORE) {
+        if !line.is_empty() {
+            lines.push(string_of(alloc, line)?)?;
+        }
+    }
+    Ok(lines)
 }
 
 fn string_of(alloc: Global, bytes: &[u8]) -> Result<String, AllocError> {

@@ -2,8 +2,9 @@
 
 ghost use Rattle.ltl_formula.specs.Nodes.{IsNodeIn};
 
-use crate::beside::{flat_beside, input_count, shift_beside};
+use crate::beside::take_text;
 use crate::faults::TextFault;
+use crate::infix::atom_of;
 use crate::plain_names::{SMV_WORDS, plain_names};
 use crate::smv::put_smv;
 use flat_lines::all_names;
@@ -58,7 +59,7 @@ fn push_names(names: &[Name], out: &mut Vec<Name>) -> Result<(), AllocError> {
     Ok(())
 }
 
-/// Puts the formula of a text, over the signals of the machine that is shown, with those inputs and outputs. Where the text was converted for it, X
+/// Puts the formula of a text, over the signals of the machine that is shown, with those inputs and outputs. Where the text was converted, X
 /// stands before the signals that are those of the next step.
 pub fn put_smv_formula(
     alloc: Global,
@@ -69,31 +70,16 @@ pub fn put_smv_formula(
     outputs: &[Name],
     out: &mut Text,
 ) -> Result<(), TextFault> {
-    let spec = flat_beside(alloc, text, Some(shown))?;
-    let shift = shift_beside(Some(shown));
-    let count = input_count(&spec);
+    let taken = take_text(alloc, text, Some(shown))?;
     let mut plain = Vec::new(alloc);
-    for (number, signal) in (0u32..64).zip(&all_names(alloc, &spec)?) {
+    for (number, signal) in (0u32..64).zip(&all_names(alloc, &taken.spec)?) {
         let Some(name) = names.name_for(signal, inputs, outputs) else {
             return Err(TextFault::NotShown(ShowFault::OtherSignals));
         };
-        let is_shifted = shift.is_some_and(|shift| shift.takes(count, number));
-        plain.push(atom_of(alloc, name, is_shifted)?)?;
+        plain.push(atom_of(alloc, name, taken.is_shifted(number))?)?;
     }
-    put_whole(&spec, &plain, out);
+    put_whole(&taken.spec, &plain, out);
     Ok(())
-}
-
-/// The formula that a signal stands for: its name, or X and the name.
-fn atom_of(alloc: Global, name: &Name, is_shifted: bool) -> Result<Name, AllocError> {
-    if !is_shifted {
-        return name.clone();
-    }
-    let mut atom = Vec::new(alloc);
-    atom.extend_from_slice(b"(X ")?;
-    atom.extend_from_slice(name.bytes())?;
-    atom.push(b')')?;
-    Name::new(alloc, &atom)
 }
 
 fn put_whole(spec: &Spec, names: &[Name], out: &mut Text)

@@ -36,11 +36,7 @@ pub(crate) fn files_of_solved(
 }
 
 /// The text as the document takes it: for machines of its kind, or by its own kinds where the document says that it was converted.
-fn text_of(
-    alloc: Global,
-    document: &SolvedDocument,
-    text: &[u8],
-) -> Result<SolveText, TextFault>
+fn text_of(alloc: Global, document: &SolvedDocument, text: &[u8]) -> Result<SolveText, TextFault>
     ensures { IfOk result (λ taken. (bytes : List ℕ) × (given : Option AKind) × IsSolveText bytes given taken) }
 {
     let given = match document.semantics {

@@ -4,6 +4,7 @@ ghost use Rattle.flat_lines.specs.FlatLines.{CanBeWritten};
 ghost use Rattle.ltl_formula.specs.Nodes.{IsNodeIn};
 ghost use Rattle.tlsf_expand.specs.FlatText.{spec_seen};
 
+use crate::beside::Taken;
 use crate::faults::TextFault;
 use crate::infix::put_whole;
 use crate::sections::{
@@ -14,7 +15,6 @@ use letters_and_lassos::Kind;
 use machine_table::{Part, Text};
 use names_and_numbers::Name;
 use std::alloc::{AllocError, Global};
-use tlsf_expand::Spec;
 
 const NO_APART: &str =
     "for strict semantics a guarantee says less than an ASSERT, so none can stand in its place";
@@ -22,10 +22,11 @@ const NO_APART: &str =
 const PRESET_STAYS: &str = "PRESET stays as it is, since it binds the system whatever is assumed";
 
 /// Puts the expanded text.
-pub(crate) fn put_same(alloc: Global, spec: &Spec, out: &mut Text) -> Result<(), AllocError>
-    requires { CanBeWritten (spec_seen spec.now) }
+pub(crate) fn put_same(alloc: Global, taken: &Taken, out: &mut Text) -> Result<(), AllocError>
+    requires { CanBeWritten (spec_seen taken.now.spec) }
 {
-    let lines = FlatLines::of(alloc, spec)?;
+    let lines = FlatLines::of(alloc, taken)?;
+    let spec = &taken.spec;
     put_head(spec.kind, spec.strict, &spec.inputs, &spec.outputs, out);
     for section in [INITIALLY, PRESET, REQUIRE, ASSERT, ASSUME, GUARANTEE] {
         lines.put_section(section, out);
@@ -37,15 +38,16 @@ pub(crate) fn put_same(alloc: Global, spec: &Spec, out: &mut Text) -> Result<(),
 /// Puts the text with a guarantee for each formula of ASSERT, and of PRESET where nothing is assumed, and gives what a reader should know of it.
 pub(crate) fn put_apart(
     alloc: Global,
-    spec: &Spec,
+    taken: &Taken,
     out: &mut Text,
 ) -> Result<Option<&'static str>, TextFault>
-    requires { CanBeWritten (spec_seen spec.now) }
+    requires { CanBeWritten (spec_seen taken.now.spec) }
 {
+    let spec = &taken.spec;
     if spec.strict {
         return Err(TextFault::NoSuchForm(NO_APART));
     }
-    let lines = FlatLines::of(alloc, spec)?;
+    let lines = FlatLines::of(alloc, taken)?;
     let has_assumptions = lines.has(REQUIRE) || lines.has(ASSUME);
     put_head(spec.kind, false, &spec.inputs, &spec.outputs, out);
     lines.put_section(INITIALLY, out);
@@ -69,15 +71,16 @@ pub(crate) fn put_apart(
 }
 
 /// Puts the task of the environment, whose machines a counter-machine is one of.
-pub(crate) fn put_dual(alloc: Global, spec: &Spec, out: &mut Text) -> Result<(), AllocError>
-    requires writable { CanBeWritten (spec_seen spec.now) }
-    requires stands { IsNodeIn spec.now.formulas spec.now.whole }
+pub(crate) fn put_dual(alloc: Global, taken: &Taken, out: &mut Text) -> Result<(), AllocError>
+    requires writable { CanBeWritten (spec_seen taken.now.spec) }
+    requires stands { IsNodeIn taken.now.spec.formulas taken.now.spec.whole }
 {
+    let spec = &taken.spec;
     let names = all_names(alloc, spec)?;
     put_head(spec.kind.other(), false, &spec.outputs, &spec.inputs, out);
     put_opened(GUARANTEE, out);
     out.put("    !");
-    put_whole(alloc, spec, &names, out)?;
+    put_whole(alloc, taken, &names, out)?;
     out.put(";\n  }\n}\n");
     Ok(())
 }
