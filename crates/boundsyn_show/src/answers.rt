@@ -2,9 +2,10 @@
 
 use crate::faults::{Fault, File};
 use crate::words::{Asked, MachineTask};
+use gate_modules::Reset;
 use input_output::{FileShelf, Shelf, ShelfFault};
 use machine_table::{Choice, Part, ShowFault, Shown, Text, chosen_circuit, read_shown};
-use machine_views::{ModuleView, Reset, View, WordView, show};
+use machine_views::{ModuleView, View, WordView, show};
 use shown_text::push_shown;
 use spec_texts::{Form, SpecText, TextFault, Told, proof_files, spec_text};
 use std::alloc::{AllocError, Global};

@@ -37,11 +37,7 @@ pub fn free_name(alloc: Global, wanted: &str, taken: &[&str]) -> Result<String, 
 }
 
 /// The same for the front of names of our own.
-pub fn free_front(
-    alloc: Global,
-    wanted: &str,
-    taken: &[&str],
-) -> Result<String, AllocError> {
+pub fn free_front(alloc: Global, wanted: &str, taken: &[&str]) -> Result<String, AllocError> {
     let mut front = String::from_str(alloc, wanted)?;
     for _ in taken {
         if !taken.iter().any(|other| other.starts_with(front.as_str())) {

@@ -152,12 +152,7 @@ fn expression_of(
 
 impl Port<'_> {
     /// Puts its declaration behind the word for its sort.
-    pub fn put_declared(
-        self,
-        alloc: Global,
-        sort: &str,
-        out: &mut Text,
-    ) -> Result<(), AllocError> {
+    pub fn put_declared(self, alloc: Global, sort: &str, out: &mut Text) -> Result<(), AllocError> {
         let name = identifier(alloc, self.name)?;
         match self.width {
             Some(width) => out.fill(

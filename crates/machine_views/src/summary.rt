@@ -145,13 +145,35 @@ fn put_machine(
             out.put("states: not counted, since ");
             out.put(fault.sentence());
             out.put("\n");
+            put_circuit(alloc, circuit, out)?;
         }
+    }
+    Ok(())
+}
+
+/// The latches and gates of a circuit whose states aren't counted, and the names of its signals where these are few.
+fn put_circuit(alloc: Global, circuit: &Circuit, out: &mut Text) -> Result<(), AllocError> {
+    out.fill(
+        "latches: {}\ngates: {}\n",
+        &[
+            Part::Number(circuit.latches.len() as u64),
+            Part::Number(circuit.gates.len() as u64),
+        ],
+    );
+    match Machine::of_run(alloc, circuit, None, &[]) {
+        Ok(machine) => put_names(&machine, out),
+        Err(ShowFault::NoMemory) => return Err(AllocError),
+        Err(_) => {}
     }
     Ok(())
 }
 
 fn put_signals(machine: &Machine, out: &mut Text) {
     out.fill("states: {}\n", &[Part::Number(machine.rows.len() as u64)]);
+    put_names(machine, out);
+}
+
+fn put_names(machine: &Machine, out: &mut Text) {
     out.put("inputs of the machine: ");
     put_words(&machine.inputs.labels, " ", "-", out);
     out.put("\noutputs of the machine: ");

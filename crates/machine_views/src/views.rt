@@ -11,11 +11,11 @@ use crate::vcd::put_vcd;
 use crate::verilog::{ModuleView, put_verilog};
 use crate::wave::put_wave;
 use lasso_word::{WordFault, read_word};
-use letters_and_lassos::Lasso;
-use machine_table::{ShowFault, Shown, Text};
+use letters_and_lassos::{Lasso, Letter};
+use machine_table::{Machine, ShowFault, Shown, Text};
 use names_and_numbers::Name;
 use spec_texts::{TextFault, Told};
-use std::alloc::Global;
+use std::alloc::{AllocError, Global};
 
 /// What is shown of a document or of a circuit.
 #[derive(Clone, Copy)]
@@ -77,7 +77,7 @@ fn put_run(
     is_vcd: bool,
     out: &mut Text,
 ) -> Result<(), ShowFault> {
-    let machine = shown.machine(alloc)?;
+    let machine = machine_on(alloc, shown, word)?;
     let lasso = lasso_of(alloc, word.text, &machine.inputs.names)?;
     let steps = steps_on(alloc, &machine, &lasso, word.rounds)?;
     if is_vcd {
@@ -86,6 +86,28 @@ fn put_run(
         put_wave(&machine, &steps, out);
     }
     Ok(())
+}
+
+/// The machine, or where it has too many states as far as the word shows it.
+fn machine_on(alloc: Global, shown: &Shown, word: WordView<'_>) -> Result<Machine, ShowFault> {
+    match shown.machine(alloc) {
+        Err(fault) if fault.is_of_table() => {
+            let names = shown.machine_on(alloc, &[])?;
+            let lasso = lasso_of(alloc, word.text, &names.inputs.names)?;
+            shown.machine_on(alloc, &letters_of(alloc, &lasso, word.rounds)?)
+        }
+        found => found,
+    }
+}
+
+/// The letters of the stem of a word and of so many rounds of its ring.
+fn letters_of(alloc: Global, word: &Lasso, rounds: u32) -> Result<Vec<Letter>, AllocError> {
+    let mut letters = Vec::new(alloc);
+    letters.extend_from_slice(word.stem())?;
+    for _ in 0..rounds {
+        letters.extend_from_slice(word.ring())?;
+    }
+    Ok(letters)
 }
 
 /// A machine has at most 16 inputs, so a word has few names.
