@@ -16,6 +16,7 @@ mod page_text;
 mod pages;
 mod partners;
 mod plays;
+mod remarks;
 mod runs;
 mod smv;
 mod smv_conditions;
@@ -30,4 +31,4 @@ mod wave;
 
 pub use plays::PlayView;
 pub use verilog::ModuleView;
-pub use views::{View, WordView, show};
+pub use views::{TextView, View, WordView, show};
