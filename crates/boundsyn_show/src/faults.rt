@@ -10,7 +10,7 @@ use std::io::{self, Error, ErrorKind, Write};
 
 pub(crate) const USAGE: &str =
     "usage: boundsyn-show DOC [--text NAME | --core | --without J] [VIEW], where VIEW is one of
-    --table | --dot | --json | --hoa | --circuit | --html [--spec SPEC] | --smv [--spec SPEC]
+    --spec SPEC | --json [--spec SPEC] | --table | --dot | --hoa | --circuit | --html [--spec SPEC] | --smv [--spec SPEC]
     --verilog [--module NAME] [--reset none | sync | async | sync-low | async-low] [--spec SPEC]
     --vcd WORD [--rounds N] | --wave WORD [--rounds N] | --against CIRCUIT [--vcd | --word] [--rounds N] | --proofs PREFIX --spec SPEC
 or boundsyn-show --spec SPEC --ltl | --tlsf | --apart | --dual | --lint
