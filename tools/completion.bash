@@ -7,17 +7,20 @@ _boundsyn_values() {
     *:--entries) echo "0 2000 50000 250000 none" ;;
     solve:--max) echo "0 1 2 3 4 5 6 7 8 9 10 11 12 13 14 15 16" ;;
     batch:--max | batch:--workers) echo "1 2 3 4" ;;
+    *:--seconds) echo "1 10 60 600 3600" ;;
     *:--max | *:--workers) echo "1 2 3 4 5 6 7 8" ;;
     esac
 }
 
 _boundsyn_options() {
     case $1 in
-    solve) echo "--max --entries --workers --kind" ;;
+    solve) echo "--max --entries --workers --kind --seconds" ;;
     synth | core) echo "--max --entries --workers --kind --counts" ;;
-    batch) echo "--solve --max --entries --workers --kind --counts" ;;
+    batch) echo "--solve --max --entries --workers --kind --counts --seconds" ;;
+    expand) echo "--solve --nodes --kind" ;;
+    lasso) echo "--solve --kind" ;;
     bench) echo "--workers" ;;
-    verify) echo "--unrealizable" ;;
+    verify) echo "--unrealizable --kind" ;;
     esac
 }
 
@@ -35,10 +38,10 @@ _boundsyn() {
     done
     if [[ -z $command ]]; then
         values="solve synth check expand lasso gen bench verify core batch --progress --quiet --verbose --help --version"
-    elif [[ $last == --solve ]]; then
+    elif [[ $command:$last == batch:--solve ]]; then
         mapfile -t COMPREPLY < <(compgen -f -- "$word")
         return
-    elif [[ $last == --* && $last != --unrealizable ]]; then
+    elif [[ $last == --* && $last != --unrealizable && $last != --solve && $last != --nodes ]]; then
         values=$(_boundsyn_values "$command" "$last")
     elif [[ $word == -* ]]; then
         values=$(_boundsyn_options "$command")

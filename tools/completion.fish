@@ -30,9 +30,12 @@ complete -c boundsyn -n '__boundsyn_is batch' -l max -x -a '(seq 4)'
 complete -c boundsyn -n '__boundsyn_is solve synth core bench' -l workers -x -a '(seq 8)'
 complete -c boundsyn -n '__boundsyn_is batch' -l workers -x -a '(seq 4)'
 complete -c boundsyn -n '__boundsyn_is solve synth core batch' -l entries -x -a '0 2000 50000 250000 none'
-complete -c boundsyn -n '__boundsyn_is solve synth core batch' -l kind -x -a 'mealy moore'
+complete -c boundsyn -n '__boundsyn_is solve synth core batch expand lasso verify' -l kind -x -a 'mealy moore'
+complete -c boundsyn -n '__boundsyn_is solve batch' -l seconds -x -a '1 10 60 600 3600'
 complete -c boundsyn -n '__boundsyn_is synth core batch' -l counts -x -a 'whole local'
 complete -c boundsyn -n '__boundsyn_is batch' -l solve -r
+complete -c boundsyn -n '__boundsyn_is expand lasso' -l solve
+complete -c boundsyn -n '__boundsyn_is expand' -l nodes
 complete -c boundsyn -n '__boundsyn_is verify' -l unrealizable
 complete -c boundsyn -n '__boundsyn_is gen' -f -a '(seq 8)'
 complete -c boundsyn -n '__boundsyn_is bench' -f -a '(seq 4)'

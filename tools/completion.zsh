@@ -10,6 +10,7 @@ _boundsyn_values() {
     *:--entries) values=(0 2000 50000 250000 none) ;;
     solve:--max) values=({0..16}) ;;
     batch:--max | batch:--workers) values=({1..4}) ;;
+    *:--seconds) values=(1 10 60 600 3600) ;;
     *:--max | *:--workers) values=({1..8}) ;;
     *) return 1 ;;
     esac
@@ -18,11 +19,13 @@ _boundsyn_values() {
 # The options of a command, into `values`.
 _boundsyn_options() {
     case $1 in
-    solve) values=(--max --entries --workers --kind) ;;
+    solve) values=(--max --entries --workers --kind --seconds) ;;
     synth | core) values=(--max --entries --workers --kind --counts) ;;
-    batch) values=(--solve --max --entries --workers --kind --counts) ;;
+    batch) values=(--solve --max --entries --workers --kind --counts --seconds) ;;
+    expand) values=(--solve --nodes --kind) ;;
+    lasso) values=(--solve --kind) ;;
     bench) values=(--workers) ;;
-    verify) values=(--unrealizable) ;;
+    verify) values=(--unrealizable --kind) ;;
     *) values=() ;;
     esac
 }

@@ -14,6 +14,13 @@ MAIN {{ INPUTS {{ r; }} OUTPUTS {{ g; }} {} }}
 """
 MEANT = ["GUARANTEE { G (g <-> r); }", "REQUIRE { r || X r; } ASSERT { g <-> r; } GUARANTEE { F g; }", "GUARANTEE { G (r || !r); }"]
 KINDS = ["Mealy", "Moore", "Mealy, Strict", "Moore, Strict"]
+WIDE = """INFO { TITLE: "t" DESCRIPTION: "d" SEMANTICS: Moore TARGET: Mealy }
+MAIN { INPUTS { r[12]; } OUTPUTS { g[12]; } GUARANTEE { &&[0 <= i < 12] G (X r[i] -> g[i]); } }
+"""
+MADE = """INFO { TITLE: "t" DESCRIPTION: "d" SEMANTICS: Mealy TARGET: Moore }
+GLOBAL { DEFINITIONS { answers(asked, given) = G (asked -> F given); } }
+MAIN { INPUTS { r; } OUTPUTS { g; h; } GUARANTEE { answers(r && X r, g U h); F[3:2] g || G F !h; } }
+"""
 
 
 def given(program):
@@ -30,28 +37,22 @@ def given(program):
 
 
 def solved(program, folder):
-    """The same with documents of version 6, where the program writes such: of texts of examples/, and of small ones whose kinds may differ."""
+    """The same with documents of version 6, where the program writes such: of texts of examples/, of small ones whose kinds may differ, of one with many
+    signals, and of one whose list of formulas has nodes in another order than its sections."""
     for name in dict.fromkeys(name for name, _ in SOLVED):
         path = TOP / "examples" / (name + ".tlsf")
         documents = [said(program, "solve", path, *options.split()) for it, options in SOLVED if it == name]
         yield path.read_text(encoding="utf-8"), [it for it in documents if not it.startswith(b"words refused")]
     spec = pathlib.Path(folder, "mixed")
+    for text in (WIDE, MADE):
+        _ = spec.write_text(text, encoding="utf-8")
+        yield text, [said(program, "solve", spec, "--max", most, *kind) for most in "01" for kind in ([], ["--kind", "moore"]) if text != WIDE or most == "0"]
     for meant in MEANT:
         texts, documents = [MIXED.format(semantics, target, meant) for semantics in KINDS for target in KINDS[:2]], []
         for text in texts:
             _ = spec.write_text(text, encoding="utf-8")
             documents += [said(program, "solve", spec, *kind) for kind in ([], ["--kind", "mealy"], ["--kind", "moore"])]
         yield from ((text, [it for it in dict.fromkeys(documents) if not it.startswith(b"words refused")]) for text in texts)
-
-
-def flat_of(program, spec, text):
-    """What `expand` writes of a text where its SEMANTICS is its TARGET, too; its TARGET; and the numbers of its typed inputs and outputs."""
-    told = re.sub(r"//.*", "", text)
-    semantics, target = (re.search(word + r":[^}]*?\b(Mealy|Moore)\b", told)[1] for word in ("SEMANTICS", "TARGET"))
-    parts = (re.search(word + r"\s*\{([^}]*)\}", told) for word in ("INPUTS", "OUTPUTS"))
-    typed = tuple(len(re.findall(r"[\w@']+\s+[\w@']+\s*;", part[1])) if part else 0 for part in parts)
-    _ = spec.write_text(re.sub(r"(TARGET:\s*)\w+", r"\g<1>" + semantics, text), encoding="utf-8")
-    return said(program, "expand", spec).decode(), target, typed
 
 
 def said(*words):

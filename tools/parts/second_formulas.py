@@ -4,11 +4,15 @@ import functools
 import re
 
 MOST_NODES, MOST_STATES, MOST_EDGES, MOST_LEAVES = 1024, 2000, 200_000, 100_000
+PARTS = {"true": 0, "false": 0, **dict.fromkeys(("signal", "!", "X", "F", "G"), 1), **dict.fromkeys(("&&", "||", "->", "<->", "U", "R", "W"), 2)}
 
 class TextFault(Exception):
-    """The text has no automata: the line that tells it."""
+    """The text isn't taken: the line that tells it."""
 
-# ---- "Signals and flat sections", "What `expand` writes" ----
+class WrongAnswer(Exception):
+    """What boundsyn says of a text is missing, or contradicts itself."""
+
+# ---- "Signals and flat sections", "What `expand` writes", "What `expand --solve` writes" ----
 
 class Formulas(list):
     """The list of formulas: different nodes (sign, part ..), each behind its parts; a signal is ("signal", number)."""
@@ -16,10 +20,26 @@ class Formulas(list):
 
     def __init__(self, most=MOST_NODES):
         super().__init__()
-        self.ids, self.most = {}, most
+        self.ids, self.most, self.is_whole = {}, most, False
+
+    @classmethod
+    def given(cls, rows, signals):
+        """The list of such lines, which lacks no node that one asks for."""
+        made = cls(len(rows))
+        for at, (mark, place, sign, *parts) in enumerate(row.split(" ") for row in rows):
+            node = (sign, signals[parts[0]]) if sign == "signal" else (sign, *map(int, parts))
+            is_next = mark == "node" and int(place) == at and len(parts) == PARTS[sign] and node not in made.ids
+            if not is_next or (sign != "signal" and any(part >= at for part in node[1:])):
+                raise WrongAnswer(f"the line `{mark} {place} {sign}` isn't that of a new node of id {at} over nodes before it")
+            made.add(*node)
+        made.is_whole = True
+        return made
 
     def add(self, *node):
+        """The id of a node, which is made where none stands."""
         if node not in self.ids:
+            if self.is_whole:
+                raise WrongAnswer(f"the list of formulas lacks the node {node}")
             if len(self) == self.most:
                 raise TextFault("refused 14 TooManyNodes at 0")
             self.ids[node] = len(self)
@@ -70,50 +90,46 @@ class Formulas(list):
     def untils(self, formula):
         return sorted(at for at in self.occurring(formula) if self[at][0] == "U")
 
-def whole_of(add, sections, is_strict):
+def whole_of(node, sections, is_strict):
     """The formula of the whole, its nodes in the order that the table of semantics has."""
     def part(name):
-        return functools.reduce(lambda x, y: add("&&", x, y), sections.get(name) or [add("true")])
+        return functools.reduce(lambda x, y: node("&&", x, y), sections.get(name) or [node("true")])
     initially, preset = part("initially"), part("preset")
     if is_strict:
         asserted, required = part("assert"), part("require")
-        preset = add("&&", preset, add("W", asserted, add("!", required)))
-        assumed = add("&&", add("G", required), part("assume"))
+        preset = node("&&", preset, node("W", asserted, node("!", required)))
+        assumed = node("&&", node("G", required), part("assume"))
         wanted = part("guarantee")
     else:
-        assumed = add("&&", add("G", part("require")), part("assume"))
-        wanted = add("&&", add("G", part("assert")), part("guarantee"))
-    return add("->", initially, add("&&", preset, add("->", assumed, wanted)))
+        assumed = node("&&", node("G", part("require")), part("assume"))
+        wanted = node("&&", node("G", part("assert")), part("guarantee"))
+    return node("->", initially, node("&&", preset, node("->", assumed, wanted)))
 
 class Flat:
-    """What `expand` writes, with a list of at most so many formulas and the formula of the whole. Of the lines `require` and `assert` so many, the last
-    ones, are of typed inputs and outputs."""
-    def __init__(self, text, most=MOST_NODES, typed=(0, 0)):
+    """What `expand` writes: names, the kind, and the formula of the whole. With `--solve --nodes` it is found in the list of formulas that stands there, and else
+    in one that is made, of at most so many."""
+    def __init__(self, text, most=MOST_NODES):
         kind, inputs, outputs, *lines = text.splitlines()
         self.inputs, self.outputs, self.kind = inputs.split(" ")[1:], outputs.split(" ")[1:], kind.split(" ")[1]
-        self.formulas, sections = Formulas(most), {}
         signals = {name: at for at, name in enumerate(self.inputs + self.outputs)}
-        for section, formula in self.in_order(lines, dict(zip(("require", "assert"), typed))):
-            tokens = re.findall(r"[()!]|[^ ()!]+", formula)[::-1]
-            sections.setdefault(section, []).append(self.formulas.read(tokens, signals))
+        rows = [line for line in lines if line.startswith("node ")]
+        self.formulas = Formulas.given(rows, signals) if rows else Formulas(most)
+        self.lines, sections = lines[:len(lines) - len(rows)], {}
+        for section, formula in (line.split(" ", 1) for line in self.lines):
+            sections.setdefault(section, []).append(self.formulas.read(tokens_of(formula)[::-1], signals))
         self.whole = whole_of(self.formulas.add, sections, kind.endswith(" strict"))
 
-    def in_order(self, lines, typed):
-        """The sections and formulas of the lines in the order in which they are made: those that are added for typed signals behind all others."""
-        split = [line.split(" ", 1) for line in lines]
-        last = {section: [at for at, (it, _) in enumerate(split) if it == section][-count:] for section, count in typed.items() if count}
-        added = [at for numbers in last.values() for at in numbers]
-        return [split[at] for at in [*(at for at in range(len(split)) if at not in added), *added]]
+def tokens_of(formula):
+    return re.findall(r"[()!]|[^ ()!]+", formula)
 
 # ---- "Kinds that differ" ----
 
-def converted(formulas, whole, shifted):
-    """The list made anew, an X before each of these signals, and the whole over it."""
-    made, forms = Formulas(formulas.most), []
-    for sign, *parts in formulas:
-        node = made.add(sign, *(parts if sign == "signal" else (forms[part] for part in parts)))
-        forms.append(made.add("X", node) if sign == "signal" and parts[0] in shifted else node)
-    return made, forms[whole]
+def is_conversion(plain, shifted, names):
+    """Whether the sections of the one text are those of the other with X before each signal of these names."""
+    def with_next(line):
+        section, formula = line.split(" ", 1)
+        return [section, *(it for token in tokens_of(formula) for it in (("(", "X", token, ")") if token in names else (token,)))]
+    return [[line.split(" ", 1)[0], *tokens_of(line.split(" ", 1)[1])] for line in shifted.lines] == [with_next(line) for line in plain.lines]
 
 # ---- "Normal forms" ----
 

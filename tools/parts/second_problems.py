@@ -5,11 +5,11 @@ import functools
 import itertools
 import re
 
-from second_formulas import MOST_NODES, Flat, TextFault, automaton_of, both_forms, components_of, converted, reduced_covers_of
+from second_formulas import MOST_NODES, TextFault, automaton_of, both_forms, components_of, reduced_covers_of
 
 SYSTEM, ENVIRONMENT = "system", "environment"
 MOST_BASE = {1: 1_000_000, 2: 1_000_000, 3: 4_000_000, 4: 4_000_000}
-MOST_LITERALS, MOST_LETTERS, MOST_SOLVE_NODES, MOST_SOLVE_STATES, MOST_SOLVE_EDGES = 40_000_000, 64, 4096, 20_000, 2_000_000
+MOST_LITERALS, MOST_LETTERS, MOST_SOLVE_STATES, MOST_SOLVE_EDGES = 40_000_000, 64, 20_000, 2_000_000
 U32, U64, ANY, MOST_LITERAL = 2**32 - 1, 2**64 - 1, 10**20, 2**30
 
 class BadLine(Exception):
@@ -106,9 +106,10 @@ class Names:
 
 class Text(Names):
     """What a document of the versions before 6 is checked against."""
-    def __init__(self, text, typed=(0, 0)):
-        flat = Flat(text, MOST_NODES, typed)
+    def __init__(self, flat):
         super().__init__(flat)
+        if len(flat.formulas) > MOST_NODES:
+            raise TextFault("refused 14 TooManyNodes at 0")
         negated, normal = both_forms(flat.formulas, flat.whole)
         self.automata = {SYSTEM: automaton_of(flat.formulas, negated), ENVIRONMENT: automaton_of(flat.formulas, normal)}
         if self.automata[SYSTEM] is None:
@@ -147,25 +148,18 @@ class Taken:
         return automaton and Problem(automaton, side, *self.signals, (kind == "Mealy") == (side == SYSTEM), 4, letters)
 
 class SolveText(Names):
-    """What a document of version 6 is checked against: a text whose SEMANTICS is that of the flat one, with this TARGET or the same."""
-    def __init__(self, text, target=None, typed=(0, 0)):
-        flat = Flat(text, MOST_SOLVE_NODES, typed)
+    """What a document of version 6 is checked against: a text of this TARGET, with its SEMANTICS where that is another kind; its flat form as it is written,
+    and as it is converted, where there is room for that."""
+    def __init__(self, flat, shifted, target, semantics):
         super().__init__(flat)
-        inputs, outputs = len(flat.inputs), len(flat.outputs)
-        self.target, self.shifted = target or flat.kind, None
-        if self.target != self.kind:
-            signals = range(inputs) if self.kind == "Moore" else range(inputs, inputs + outputs)
-            try:
-                self.shifted = Taken(*converted(flat.formulas, flat.whole, signals), inputs, outputs)
-            except TextFault:
-                pass
-        self.plain = Taken(flat.formulas, flat.whole, inputs, outputs)
+        self.target, self.semantics = target, semantics
+        self.plain, self.shifted = (it and Taken(it.formulas, it.whole, len(it.inputs), len(it.outputs)) for it in (flat, shifted))
 
     def taken(self, kind, semantics):
         """The text as it is for this kind or, where a document names its semantics, as it is converted. None where it isn't so."""
         if semantics is None:
             return self.plain
-        return self.shifted if (semantics, kind) == (self.kind, self.target) else None
+        return self.shifted if (semantics, kind) == (self.semantics, self.target) else None
 
 # ---- "Logs" ----
 

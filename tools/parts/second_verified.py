@@ -38,7 +38,7 @@ def names_states(lines, circuit):
 
 def answer_to_circuit(text, side, lines, last, circuit, names_lines):
     """What `verify` prints of a circuit that plays the side, has no fault and these bad lines of names, for a text as `solve` takes it."""
-    taken = text.shifted or text.plain
+    taken = text.shifted if text.semantics else text.plain
     if names_lines:
         return f"refused at line {min(names_lines)}"
     if circuit.comment is None:
@@ -49,4 +49,4 @@ def answer_to_circuit(text, side, lines, last, circuit, names_lines):
     failing = failing or [*itertools.islice(Claims(taken, annotated).lines(), 1)]
     if failing:
         return f"refused at line {min(failing)}"
-    return f"{WORDS[side]} as {text.target}" + (f" of {text.kind} semantics" if text.shifted else "")
+    return f"{WORDS[side]} as {text.target}" + (f" of {text.semantics} semantics" if text.semantics else "")

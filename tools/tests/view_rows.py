@@ -93,7 +93,7 @@ def programs_say_their_version(it):
     with open(os.path.join(os.path.dirname(os.path.realpath(it.path("examples"))), "VERSION"), encoding="utf-8") as file:
         version = file.read().strip()
     for name in ("boundsyn", "boundsyn-show"):
-        assert it.run(name, "--version")[2].startswith(f"{name} {version}\n")
+        assert it.run(name, "--version") == (0, f"{name} {version}\n", "")
 
 
 def json_says_what_the_table_says(it):

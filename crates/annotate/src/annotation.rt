@@ -32,7 +32,7 @@ pub enum Outcome {
 
 /// Annotates a circuit for a text, or says why it can't.
 pub(crate) fn annotate(alloc: Global, text: &[u8], circuit: &[u8]) -> Result<Outcome, AllocError> {
-    match problems_for_verify(alloc, text)? {
+    match problems_for_verify(alloc, text, None)? {
         Problems::Of(problems) => annotate_for(alloc, &problems, circuit),
         Problems::Refused(reply) => Ok(Outcome::Refused(reply)),
     }

@@ -5,11 +5,13 @@
 #![tactic(auto)]
 
 mod components;
+mod counting;
 mod lines;
 mod product;
 mod states;
 mod stops;
 
+pub use counting::count_states;
 pub use lines::{Made, Maker, annotation_of};
 pub use states::{Edge, MetStates};
 pub use stops::{Limit, Stop};

@@ -10,6 +10,7 @@ use letters_and_lassos::Side;
 use ltl_formula::{FormulaId, Formulas};
 use names_and_numbers::push_number;
 use std::alloc::{AllocError, Global};
+use time_limits::Deadline;
 
 /// What an annotation is of.
 #[derive(Clone, Copy)]
@@ -31,21 +32,29 @@ pub enum Made {
     /// The form is true on some run.
     LetsThrough,
     TooLarge(Limit),
+    /// The time is over.
+    NoTime,
 }
 
 /// The lines of an annotation of a circuit over named states, with the least numbers. It takes a step of the circuit for each latch
-/// values that it reaches and 64 letters that it reads, and a look at each letter for each edge of a pair's state.
-pub fn annotation_of(alloc: Global, maker: Maker<'_>) -> Result<Made, AllocError> {
-    match annotate(alloc, maker) {
+/// values that it reaches and 64 letters that it reads, and a look at each letter for each edge of a pair's state. At each pair it asks
+/// whether the time is over.
+pub fn annotation_of<D: Deadline>(
+    alloc: Global,
+    maker: Maker<'_>,
+    deadline: &D,
+) -> Result<Made, AllocError> {
+    match annotate(alloc, maker, deadline) {
         Ok(made) => Ok(made),
         Err(Stop::Passed(limit)) => Ok(Made::TooLarge(limit)),
+        Err(Stop::Time) => Ok(Made::NoTime),
         Err(Stop::NoMemory) => Err(AllocError),
     }
 }
 
-fn annotate(alloc: Global, maker: Maker<'_>) -> Result<Made, Stop> {
+fn annotate<D: Deadline>(alloc: Global, maker: Maker<'_>, deadline: &D) -> Result<Made, Stop> {
     let mut met = MetStates::start(alloc, maker.formulas, maker.form)?;
-    let product = reached(alloc, maker.circuit, maker.side, &mut met)?;
+    let product = reached(alloc, maker.circuit, maker.side, &mut met, deadline)?;
     Ok(numbered(alloc, &product, &met)?)
 }
 

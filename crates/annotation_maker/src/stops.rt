@@ -20,6 +20,8 @@ pub enum Limit {
 pub enum Stop {
     Passed(Limit),
     NoMemory,
+    /// The time is over.
+    Time,
 }
 
 impl From<AllocError> for Stop {

@@ -40,7 +40,7 @@ fn checked<R: Threads + Sync>(
     ensures { IfOk result (λ r. CheckAnswers text.now certificate.now r.bytes.items (status_number r.status)) }
 {
     match text_for_check(alloc, text)? {
-        TextForCheck::Taken(found) => check_answer(rt, alloc, text, found, certificate),
+        TextForCheck::Taken => check_answer(rt, alloc, text, certificate),
         TextForCheck::Refused(reply) => Ok(reply),
     }
 }

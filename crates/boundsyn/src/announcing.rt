@@ -8,11 +8,11 @@ use std::io;
 
 /// Writes to standard error that something is found, and keeps what is told of the answers.
 #[derive(Drop)]
-pub struct Announcer<'a, R: Eprint> {
+pub struct Announcer<'a, 'b, R: Eprint> {
     pub rt: &'a R,
     pub alloc: Global,
     /// The name of the text, where something is to be said of it.
-    pub name: Option<&'a str>,
+    pub name: Option<&'b str>,
     pub kept: KeptTold,
     /// Whether a line was written.
     pub is_announced: bool,
@@ -20,14 +20,14 @@ pub struct Announcer<'a, R: Eprint> {
     pub tells_phases: bool,
 }
 
-impl<'a, R: Eprint> Announcer<'a, R> {
+impl<'a, 'b, R: Eprint> Announcer<'a, 'b, R> {
     /// Where there is no name nothing is written.
     pub fn new(
         rt: &'a R,
         alloc: Global,
-        name: Option<&'a str>,
+        name: Option<&'b str>,
         tells_phases: bool,
-    ) -> Announcer<'a, R> {
+    ) -> Announcer<'a, 'b, R> {
         Announcer {
             rt,
             alloc,
@@ -63,7 +63,7 @@ impl<'a, R: Eprint> Announcer<'a, R> {
     }
 }
 
-impl<'a, R: Eprint> Listener for Announcer<'a, R> {
+impl<'a, 'b, R: Eprint> Listener for Announcer<'a, 'b, R> {
     fn hear(&mut self, news: News) {
         match news {
             News::Playing => {

@@ -26,14 +26,14 @@ struct Counts {
 /// A gate that holds nobody back, and remembers that somebody passed. Where lines are wanted it counts the turns and entries at each
 /// log, or which texts of a batch are taken and answered, and whoever passes first after a second has gone by writes one to standard error.
 #[derive(Drop)]
-pub struct CountingGate<'a, R: Clock + Eprint> {
+pub struct CountingGate<'a, 'b, R: Clock + Eprint> {
     rt: &'a R,
     alloc: Global,
     start: Option<Instant>,
     /// The most entries of a log, as far as lines tell of them.
     limit: Option<u64>,
     /// How many files were taken, where they are a list and the texts of a batch.
-    batch: Option<&'a AtomicU64>,
+    batch: Option<&'b AtomicU64>,
     /// How many seconds have been told of.
     told: AtomicU64,
     is_passed: AtomicBool,
@@ -41,15 +41,15 @@ pub struct CountingGate<'a, R: Clock + Eprint> {
     counts: Vec<Counts>,
 }
 
-impl<'a, R: Clock + Eprint> CountingGate<'a, R> {
+impl<'a, 'b, R: Clock + Eprint> CountingGate<'a, 'b, R> {
     /// Where lines aren't wanted, or there is no clock, nothing is counted.
     pub fn new(
         rt: &'a R,
         alloc: Global,
         is_wanted: bool,
         limit: Option<u64>,
-        batch: Option<&'a AtomicU64>,
-    ) -> Result<CountingGate<'a, R>, AllocError> {
+        batch: Option<&'b AtomicU64>,
+    ) -> Result<CountingGate<'a, 'b, R>, AllocError> {
         let places = if batch.is_some() { TEXTS } else { LOGS };
         let mut counts = Vec::with_capacity(alloc, places)?;
         for _ in 0..places {
@@ -147,7 +147,7 @@ fn side_of(log: usize) -> Side {
     }
 }
 
-impl<'a, R: Clock + Eprint> Gate for CountingGate<'a, R> {
+impl<'a, 'b, R: Clock + Eprint> Gate for CountingGate<'a, 'b, R> {
     fn pass(&self, _worker: u32, log: u32, moment: Moment) {
         self.is_passed.store(true, Ordering::SeqCst);
         if self.start.is_none() {

@@ -1,18 +1,27 @@
 //! The program: files of the system, standard output and a gate that holds nobody back, around the one call that does the
 //! work, with its status as the exit status. What surrounds that call remembers what a message on standard error may need, and writes
 //! it once the call is over, but that something is found, which it says at once; the words `--progress`, `--quiet` and `--verbose` before the others, which the call doesn't see, say how much.
+//! `-o FILE` among them has a file written in place of standard output, and `--help` and `--version` are answered here.
 #![tactic(auto)]
 
 mod announcing;
+mod clocks;
 mod counting_gate;
 mod listening;
 
 use announcing::Announcer;
 use boundsyn_top::run;
+use clocks::ClockStopwatch;
 use counting_gate::CountingGate;
-use diagnostics::{Heard, KeptFiles, OwnWords, Seen, message, read_own_words};
-use input_output::{FileShelf, StdSink};
+use diagnostics::{
+    Heard, KeptFiles, OWN_WORDS, OwnWords, Seen, VERSION, help_page, message, read_own_words,
+};
+use input_output::{FileShelf, Sink};
 use listening::{HearingSink, KeepingShelf};
+use program_customs::{
+    Asked, ProgramOutput, asked_of, is_input, take_output, twice_message, unwritten_message,
+    with_input,
+};
 use program_words::{Wishes, read_wishes};
 use std::alloc::{AllocError, Global};
 use std::env;
@@ -22,6 +31,15 @@ use std::rt::{Clock, Files};
 use std::sync::Wait;
 use std::sync::atomic::AtomicU64;
 use std::thread::Threads;
+use time_limits::Stopwatch;
+
+const PROGRAM: &str = "boundsyn";
+
+const DONE: u8 = 0;
+
+const WORDS_REFUSED: u8 = 2;
+
+const CANNOT_WRITE: u8 = 4;
 
 /// The status where memory runs out before there are words.
 const NO_MEMORY: u8 = 5;
@@ -59,6 +77,7 @@ struct End {
     read_error: Option<String>,
     write_error: Option<String>,
     is_searched: bool,
+    milliseconds: u64,
 }
 
 impl End {
@@ -94,6 +113,7 @@ fn seen_of_run<'a>(
         read_error,
         write_error,
         is_searched: end.is_searched,
+        milliseconds: end.milliseconds,
     }
 }
 
@@ -105,12 +125,20 @@ fn limit_of(wishes: &Wishes<'_>) -> Option<u64> {
     }
 }
 
-/// Runs the words, tells what own words want, and gives the exit status.
-fn run_words<R>(rt: &R, alloc: Global, words: &[String], own: OwnWords) -> Result<u8, AllocError>
+/// Runs the words, tells what own words want, and gives the exit status. Standard input is taken under the name of its file.
+fn run_words<R>(
+    rt: &R,
+    alloc: Global,
+    words: &[String],
+    own: OwnWords,
+    output: ProgramOutput<'_, R>,
+) -> Result<u8, AllocError>
 where
-    R: Files + Print + Eprint + Clock + Threads + Wait + Sync,
+    R: Files + Print + Eprint + Clock + Threads + Wait + Sync + AllocGlobal,
 {
-    let wishes = read_wishes(alloc, words);
+    let stopwatch = ClockStopwatch::start(rt);
+    let opened = with_input(alloc, words)?;
+    let wishes = read_wishes(alloc, &opened);
     let taken = AtomicU64::new(0);
     let batch = if wishes.is_batch { Some(&taken) } else { None };
     let gate = CountingGate::new(rt, alloc, own.progress, limit_of(&wishes), batch)?;
@@ -120,7 +148,7 @@ where
         taken: &taken,
     };
     let mut out = HearingSink {
-        inner: StdSink::new(rt),
+        inner: output,
         heard: Heard::new(alloc, wishes.is_batch),
     };
     let name = if own.quiet { None } else { wishes.spec };
@@ -128,31 +156,128 @@ where
     let status = run(
         rt,
         alloc,
-        words,
+        &opened,
         &mut shelf,
         &mut out,
         &gate,
+        &stopwatch,
         &mut announcer,
     );
     out.heard.tell(&announcer.kept, announcer.is_announced);
+    let written = out.inner.end(status);
     // Whoever closed the pipe wants no more of the output, and no word about it.
     let is_closed = out
         .inner
         .last_error()
         .is_some_and(|error| error.kind() == ErrorKind::BrokenPipe);
-    if !own.quiet && !is_closed {
-        let end = End {
-            status,
-            read_error: reason(alloc, shelf.inner.last_error()).unwrap_or(None),
-            write_error: reason(alloc, out.inner.last_error()).unwrap_or(None),
-            is_searched: gate.is_passed(),
-        };
-        let seen = seen_of_run(words, &shelf.kept, &out.heard, &end);
-        if let Ok(text) = message(alloc, seen, own.verbose) {
-            tell(rt, &text);
+    if own.quiet || is_closed {
+        return Ok(status_of(status, written.is_ok()));
+    }
+    let end = End {
+        status: status_of(status, written.is_ok()),
+        read_error: reason(alloc, shelf.inner.last_error()).unwrap_or(None),
+        write_error: reason(alloc, written.err().or(out.inner.last_error())).unwrap_or(None),
+        is_searched: gate.is_passed(),
+        milliseconds: stopwatch.milliseconds(),
+    };
+    let seen = seen_of_run(words, &shelf.kept, &out.heard, &end);
+    if let Ok(text) = message(alloc, seen, own.verbose) {
+        tell(rt, &text);
+    }
+    Ok(end.status)
+}
+
+/// The status of the program, whose output may have failed to get its name.
+fn status_of(status: u8, is_written: bool) -> u8 {
+    if is_written { status } else { CANNOT_WRITE }
+}
+
+/// Writes a text to the output, and gives the status.
+fn write_text<R>(
+    rt: &R,
+    alloc: Global,
+    text: &str,
+    status: u8,
+    own: OwnWords,
+    output: ProgramOutput<'_, R>,
+) -> Result<u8, AllocError>
+where
+    R: Files + Print + Eprint + AllocGlobal,
+{
+    let mut output = output;
+    let is_put = output.put(text.as_bytes()).is_ok();
+    let status = status_of(status, is_put);
+    let named = output.end(status);
+    let error = named.err().or(output.last_error());
+    match error {
+        None => Ok(status),
+        Some(error) => {
+            if !own.quiet && error.kind() != ErrorKind::BrokenPipe {
+                tell(rt, &unwritten_message(alloc, PROGRAM, &error)?);
+            }
+            Ok(CANNOT_WRITE)
+        },
+    }
+}
+
+/// Answers the words that ask for the program itself, and runs the others. Standard input is named once.
+fn answer<R>(
+    rt: &R,
+    alloc: Global,
+    words: &[String],
+    own: OwnWords,
+    output: ProgramOutput<'_, R>,
+) -> Result<u8, AllocError>
+where
+    R: Files + Print + Eprint + Clock + Threads + Wait + Sync + AllocGlobal,
+{
+    match asked_of(words) {
+        Some(Asked::Help) => {
+            let page = help_page(alloc)?;
+            return write_text(rt, alloc, &page, DONE, own, output);
+        },
+        Some(Asked::Version) => {
+            let line = format!(in alloc; "boundsyn {VERSION}\n")?;
+            return write_text(rt, alloc, &line, DONE, own, output);
+        },
+        None => {},
+    }
+    let inputs = words
+        .iter()
+        .skip(2)
+        .filter(|word| is_input(word.as_str()))
+        .count();
+    if inputs > 1 {
+        if !own.quiet {
+            tell(rt, &twice_message(alloc, PROGRAM)?);
+        }
+        return write_text(rt, alloc, "words refused\n", WORDS_REFUSED, own, output);
+    }
+    run_words(rt, alloc, words, own, output)
+}
+
+/// Takes the program's own words out of the words, and gives the exit status.
+fn status_for(rt: &HostRuntime, alloc: Global, words: &mut Vec<String>) -> Result<u8, AllocError> {
+    let file = take_output(alloc, words, &OWN_WORDS)?;
+    let own = read_own_words(words);
+    for _ in 0..own.count() {
+        if words.len() > 1 {
+            words.remove(1);
         }
     }
-    Ok(status)
+    let name = match &file {
+        Some(name) => Some(name.as_str()),
+        None => None,
+    };
+    match ProgramOutput::open(rt, alloc, name) {
+        Ok(output) => answer(rt, alloc, words, own, output),
+        Err(error) => {
+            if !own.quiet {
+                tell(rt, &unwritten_message(alloc, PROGRAM, &error)?);
+            }
+            Ok(CANNOT_WRITE)
+        },
+    }
 }
 
 fn main(rt: HostRuntime) -> ExitCode {
@@ -161,16 +286,11 @@ fn main(rt: HostRuntime) -> ExitCode {
         tell(&rt, WANTED_AT_START);
         return ExitCode::from(NO_MEMORY);
     };
-    let own = read_own_words(&words);
-    for _ in 0..own.count() {
-        if words.len() > 1 {
-            words.remove(1);
-        }
-    }
-    match run_words(&rt, alloc, &words, own) {
+    let is_quiet = read_own_words(&words).quiet;
+    match status_for(&rt, alloc, &mut words) {
         Ok(status) => ExitCode::from(status),
         Err(_) => {
-            if !own.quiet {
+            if !is_quiet {
                 tell(&rt, WANTED_AT_START);
             }
             ExitCode::from(NO_MEMORY)

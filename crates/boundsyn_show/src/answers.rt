@@ -9,6 +9,7 @@ use machine_remarks::empty_sections;
 use machine_table::{Choice, Part, ShowFault, Shown, Text, chosen_circuit, read_shown};
 use machine_views::{ModuleView, TextView, View, WordView, show};
 use outcome_news::Remarks;
+use program_customs::file_of;
 use shown_text::push_shown;
 use spec_texts::{Form, SpecText, TextFault, Told, proof_files, spec_text};
 use std::alloc::{AllocError, Global};
@@ -26,7 +27,7 @@ const NO_GUARANTEES: &str =
 fn bytes_of<R: Files>(rt: &R, alloc: Global, name: &str) -> Result<Vec<u8>, Fault> {
     let mut bytes = Vec::new(alloc);
     let mut shelf = FileShelf::new(rt, alloc);
-    match shelf.take(name, u64::MAX, &mut bytes) {
+    match shelf.take(file_of(name), u64::MAX, &mut bytes) {
         Ok(()) => Ok(bytes),
         Err(ShelfFault::NoMemory) => Err(Fault::NoMemory),
         Err(_) => Err(Fault::of_unread(alloc, name, shelf.last_error())?),

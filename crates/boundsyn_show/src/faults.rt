@@ -1,12 +1,14 @@
 //! Why nothing is shown, in the form that `boundsyn` has.
 
 use diagnostics::{Heard, KeptFiles, Seen, message};
+use input_output::Sink;
 use machine_table::ShowFault;
+use program_customs::ProgramOutput;
 use program_replies::Status;
 use shown_text::push_shown;
 use spec_texts::TextFault;
 use std::alloc::{AllocError, AllocFailed, Global};
-use std::io::{self, Error, ErrorKind, Write};
+use std::io::{self, Error, ErrorKind};
 
 pub(crate) const USAGE: &str =
     "usage: boundsyn-show DOC [--text NAME | --core | --without J] [VIEW], where VIEW is one of
@@ -14,7 +16,7 @@ pub(crate) const USAGE: &str =
     --verilog [--module NAME] [--reset none | sync | async | sync-low | async-low] [--spec SPEC]
     --vcd WORD [--rounds N] | --wave WORD [--rounds N] | --against CIRCUIT [--vcd | --word] [--rounds N] | --proofs PREFIX --spec SPEC
 or boundsyn-show --spec SPEC --ltl | --tlsf | --apart | --dual | --lint
-or boundsyn-show --help | --version; N is 1 to 100
+or boundsyn-show --help | --version; N is 1 to 100, `-` is standard input, and `-o FILE` before all words writes FILE
 ";
 
 const PROGRAM: &str = "boundsyn-show";
@@ -131,15 +133,26 @@ impl Fault {
         }
     }
 
-    /// Writes the line, and the message.
-    pub(crate) fn report(&self, rt: &HostRuntime) -> io::Result<()> {
+    /// Writes the line to the output, and the message to standard error. Where the line can't be written nothing is said.
+    pub(crate) fn report(
+        &self,
+        rt: &HostRuntime,
+        out: &mut ProgramOutput<'_, HostRuntime>,
+    ) -> io::Result<()> {
+        if let Fault::Told(report) = self {
+            if out.put(&report.line).is_err() {
+                return Ok(());
+            }
+        }
+        self.tell(rt)
+    }
+
+    /// Writes the message to standard error.
+    pub(crate) fn tell(&self, rt: &HostRuntime) -> io::Result<()> {
         match self {
             Fault::NoMemory => rt.eprint("boundsyn-show: error: memory ran out\n"),
             Fault::Closed => Ok(()),
-            Fault::Told(report) => {
-                rt.stdout().write_all(&report.line)?;
-                rt.eprint(&report.message)
-            }
+            Fault::Told(report) => rt.eprint(&report.message),
         }
     }
 }
@@ -199,6 +212,7 @@ fn of_text(
         read_error: None,
         write_error: None,
         is_searched: false,
+        milliseconds: 0,
     };
     Ok(Fault::Told(Report {
         status: Status::Refused,

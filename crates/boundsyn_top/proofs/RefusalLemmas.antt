@@ -7,7 +7,7 @@ use Rattle.spec_faults.specs.declared.code.SpecCode.{SpecCode}
 use Rattle.input_output.specs.Files.{Files, bytes_under}
 use Rattle.program_replies.specs.Lines.{line_refusal, refusal_line}
 use Rattle.program_replies.proofs.RefusalLemmas.{one_refusal}
-use Rattle.program_words.specs.Settings.{Asked, EachText, batch, bench, check, core, expand, gen, lasso, solve, synth, verify}
+use Rattle.program_words.specs.Settings.{Asked, EachText, batch, bench, check, core, expand, expand_solve, gen, lasso, lasso_solve, solve, synth, verify}
 use Rattle.tlsf_expand.specs.FlatText.{FlatText}
 use Rattle.flat_text.specs.FlatOf.{IsFlatOf}
 use Rattle.spec_problems.specs.OfText.{IsFirstFault}
@@ -21,6 +21,9 @@ use Rattle.check_answer.specs.Laws.{ChecksAreDetermined}
 use Rattle.flat_answer.specs.Expand.{ExpandAnswers}
 use Rattle.flat_answer.specs.Lasso.{LassoAnswers}
 use Rattle.flat_answer.specs.Laws.{ExpandAnswersAreDue, LassoAnswersAreDue}
+use Rattle.solved_flat.specs.Expand.{ExpandSolveAnswers}
+use Rattle.solved_flat.specs.Lasso.{LassoSolveAnswers}
+use Rattle.solved_flat.specs.Laws.{ExpandSolveAnswersAreDue, LassoSolveAnswersAreDue}
 use Rattle.flat_text.specs.Laws.{FlatTextsAreDetermined}
 use Rattle.letters_and_lassos.specs.declared.kinds.Side.{Side}
 use Rattle.letters_and_lassos.specs.declared.kinds.Side.TheVariants.{Environment, System}
@@ -97,20 +100,21 @@ bad_list law told lines wanted bytes status n (batches.answered names texts ende
 
 module _ (problems : ProblemsOfTextsAreDetermined) (checks : ChecksAreDetermined) (expansions : ExpandAnswersAreDue) (truths : LassoAnswersAreDue)
     (verifications : VerificationsAreDetermined) (flats : FlatTextsAreDetermined) (faults : CoreFaultsAreDetermined) (lists : ListsAreDetermined)
-    (solvings : SolveTextsAreDetermined) (environments : EnvironmentsAreDetermined) where
-  verify_fault : (side : Side) (text circuit bytes : List ℕ) (status : ℕ) (code : SpecCode) (place : ℕ) → CircuitAnswers side text circuit bytes status →
-      IsVerifyFault side text circuit code place → (status ≡ 1) × (bytes ≡ refusal_line code place)
-  verify_fault System text circuit bytes status code place a fault =
-      verifications.of_fault text circuit bytes status code place a fault.fault fault.untested
-  verify_fault Environment text circuit bytes status code place a fault = environments.of_fault text circuit bytes status code place a fault
+    (solvings : SolveTextsAreDetermined) (environments : EnvironmentsAreDetermined) (solved_expansions : ExpandSolveAnswersAreDue)
+    (solved_truths : LassoSolveAnswersAreDue) where
+  verify_fault : (side : Side) (text : List ℕ) (kind : Option Kind) (circuit bytes : List ℕ) (status : ℕ) (code : SpecCode) (place : ℕ)
+      → CircuitAnswers side text kind circuit bytes status → IsVerifyFault side text kind circuit code place → (status ≡ 1) × (bytes ≡ refusal_line code place)
+  verify_fault System text kind circuit bytes status code place a fault =
+      verifications.of_fault text kind circuit bytes status code place a fault.fault fault.untested
+  verify_fault Environment text kind circuit bytes status code place a fault = environments.of_fault text kind circuit bytes status code place a fault
 
-  bad_circuit : (side : Side) (text circuit bytes : List ℕ) (status n : ℕ) → CircuitAnswers side text circuit bytes status → IsBadCircuit side text circuit n →
-      (status ≡ 40) × (bytes ≡ line_refusal n)
-  bad_circuit System text circuit bytes status n a (faults_of_check.listed given unnamed first) =
-      verifications.of_bad_line text circuit bytes status given n a unnamed first
-  bad_circuit System text circuit bytes status n a (faults_of_check.named given names first) =
-      verifications.of_line_with_states text circuit bytes status given n a names first
-  bad_circuit Environment text circuit bytes status n a bad = environments.of_bad_line text circuit bytes status bad.given n a bad.bad
+  bad_circuit : (side : Side) (text : List ℕ) (kind : Option Kind) (circuit bytes : List ℕ) (status n : ℕ) → CircuitAnswers side text kind circuit bytes status
+      → IsBadCircuit side text kind circuit n → (status ≡ 40) × (bytes ≡ line_refusal n)
+  bad_circuit System text kind circuit bytes status n a (faults_of_check.listed given unnamed first) =
+      verifications.of_bad_line text kind circuit bytes status given n a unnamed first
+  bad_circuit System text kind circuit bytes status n a (faults_of_check.named given names first) =
+      verifications.of_line_with_states text kind circuit bytes status given n a names first
+  bad_circuit Environment text kind circuit bytes status n a bad = environments.of_bad_line text kind circuit bytes status bad.given n a bad.bad
 
   check_fault : (text document bytes : List ℕ) (status : ℕ) (code : SpecCode) (place : ℕ) → CheckAnswers text document bytes status →
       IsCheckFault text document code place → (status ≡ 1) × (bytes ≡ refusal_line code place)
@@ -135,12 +139,18 @@ module _ (problems : ProblemsOfTextsAreDetermined) (checks : ChecksAreDetermined
   of_text files (lasso spec word) bytes status code place fault a =
       let h = of_told files spec (λ text. HoldsOfFile (Some files) word (λ lines. LassoAnswers text lines bytes status)) a.answer in
       truths.of_fault (bytes_under files spec) h.bytes bytes status code place h.holds fault
+  of_text files (expand_solve spec kind nodes) bytes status code place fault a =
+      solved_expansions.of_fault (bytes_under files spec) kind nodes bytes status code place
+      (of_told files spec (λ text. ExpandSolveAnswers text kind nodes bytes status) a.answer) fault
+  of_text files (lasso_solve spec word kind) bytes status code place fault a =
+      let h = of_told files spec (λ text. HoldsOfFile (Some files) word (λ lines. LassoSolveAnswers text kind lines bytes status)) a.answer in
+      solved_truths.of_fault (bytes_under files spec) kind h.bytes bytes status code place h.holds fault
   of_text files (gen clients) bytes status code place fault a = absurd fault
   of_text files (bench clients workers) bytes status code place fault a = absurd fault
-  of_text files (verify side spec circuit) bytes status code place fault a =
-      let h = of_told files spec (λ text. HoldsOfFile (Some files) circuit (λ lines. CircuitAnswers side text lines bytes status)) a.answer in
-      verify_fault side (bytes_under files spec) (bytes_under files circuit) bytes status code place
-      (of_told files circuit (λ lines. CircuitAnswers side (bytes_under files spec) lines bytes status) h) fault
+  of_text files (verify side kind spec circuit) bytes status code place fault a =
+      let h = of_told files spec (λ text. HoldsOfFile (Some files) circuit (λ lines. CircuitAnswers side text kind lines bytes status)) a.answer in
+      verify_fault side (bytes_under files spec) kind (bytes_under files circuit) bytes status code place
+      (of_told files circuit (λ lines. CircuitAnswers side (bytes_under files spec) kind lines bytes status) h) fault
   of_text files (core spec wanted kind) bytes status code place fault a =
       core_fault problems flats faults (bytes_under files spec) kind wanted bytes status code place
       (of_told files spec (λ text. CoreAnswers text kind wanted bytes status) a.answer) fault
@@ -154,15 +164,15 @@ module _ (problems : ProblemsOfTextsAreDetermined) (checks : ChecksAreDetermined
       IsFirstFault text (Some Mealy) code' place' → (code ≡ code') × (place ≡ place')
   check_alike text document code code' place place' (faults_of_check.of_text _ _ fault untested) own = problems.one_fault text (Some Mealy) code code' place place' fault own
 
-  verify_alike : (side : Side) (text circuit : List ℕ) (code code' : SpecCode) (place place' : ℕ) → IsVerifyFault side text circuit code place →
-      IsSynthFault side text code' place' → (code ≡ code') × (place ≡ place')
-  verify_alike System text circuit code code' place place' fault own = problems.one_fault text None code code' place place' fault.fault own
-  verify_alike Environment text circuit code code' place place' fault own = absurd own
+  verify_alike : (side : Side) (text : List ℕ) (kind : Option Kind) (circuit : List ℕ) (code code' : SpecCode) (place place' : ℕ)
+      → IsVerifyFault side text kind circuit code place → IsSynthFault side text kind code' place' → (code ≡ code') × (place ≡ place')
+  verify_alike System text kind circuit code code' place place' fault own = problems.one_fault text kind code code' place place' fault.fault own
+  verify_alike Environment text kind circuit code code' place place' fault own = absurd own
 
-  one_synth : (side : Side) (text : List ℕ) (code code' : SpecCode) (place place' : ℕ) → IsSynthFault side text code place → IsSynthFault side text code' place' →
-      (code ≡ code') × (place ≡ place')
-  one_synth System text code code' place place' fault other = problems.one_fault text None code code' place place' fault other
-  one_synth Environment text code code' place place' fault other = absurd fault
+  one_synth : (side : Side) (text : List ℕ) (kind : Option Kind) (code code' : SpecCode) (place place' : ℕ) → IsSynthFault side text kind code place
+      → IsSynthFault side text kind code' place' → (code ≡ code') × (place ≡ place')
+  one_synth System text kind code code' place place' fault other = problems.one_fault text kind code code' place place' fault other
+  one_synth Environment text kind code code' place place' fault other = absurd fault
 
   of_unread : (files : Files) (asked : Asked) (code code' : SpecCode) (place place' : ℕ) → HasFault files asked code place →
       HasSynthFault (Some files) asked code' place' → (code ≡ code') × (place ≡ place')
@@ -171,12 +181,14 @@ module _ (problems : ProblemsOfTextsAreDetermined) (checks : ChecksAreDetermined
       check_alike (bytes_under files spec) (bytes_under files document) code code' place place' fault
       (of_told files spec (λ text. IsFirstFault text (Some Mealy) code' place') own)
   of_unread files (expand spec) code code' place place' fault own = absurd own
+  of_unread files (expand_solve spec kind nodes) code code' place place' fault own = absurd own
   of_unread files (lasso spec word) code code' place place' fault own = absurd own
+  of_unread files (lasso_solve spec word kind) code code' place place' fault own = absurd own
   of_unread files (gen clients) code code' place place' fault own = absurd own
   of_unread files (bench clients workers) code code' place place' fault own = absurd own
-  of_unread files (verify side spec circuit) code code' place place' fault own =
-      verify_alike side (bytes_under files spec) (bytes_under files circuit) code code' place place' fault
-      (of_told files spec (λ text. IsSynthFault side text code' place') own)
+  of_unread files (verify side kind spec circuit) code code' place place' fault own =
+      verify_alike side (bytes_under files spec) kind (bytes_under files circuit) code code' place place' fault
+      (of_told files spec (λ text. IsSynthFault side text kind code' place') own)
   of_unread files (core spec wanted kind) code code' place place' fault own = absurd own
   of_unread files (batch list wanted) code code' place place' fault own = absurd own
   of_unread files (solve spec kind refutations) code code' place place' fault own = absurd own
@@ -188,12 +200,14 @@ module _ (problems : ProblemsOfTextsAreDetermined) (checks : ChecksAreDetermined
       problems.one_fault (bytes_under files spec) (Some Mealy) code code' place place'
       (of_told files spec (λ text. IsFirstFault text (Some Mealy) code place) fault) (of_told files spec (λ text. IsFirstFault text (Some Mealy) code' place') own)
   one_unread files (expand spec) code code' place place' fault own = absurd own
+  one_unread files (expand_solve spec kind nodes) code code' place place' fault own = absurd own
   one_unread files (lasso spec word) code code' place place' fault own = absurd own
+  one_unread files (lasso_solve spec word kind) code code' place place' fault own = absurd own
   one_unread files (gen clients) code code' place place' fault own = absurd own
   one_unread files (bench clients workers) code code' place place' fault own = absurd own
-  one_unread files (verify side spec circuit) code code' place place' fault own =
-      one_synth side (bytes_under files spec) code code' place place'
-      (of_told files spec (λ text. IsSynthFault side text code place) fault) (of_told files spec (λ text. IsSynthFault side text code' place') own)
+  one_unread files (verify side kind spec circuit) code code' place place' fault own =
+      one_synth side (bytes_under files spec) kind code code' place place'
+      (of_told files spec (λ text. IsSynthFault side text kind code place) fault) (of_told files spec (λ text. IsSynthFault side text kind code' place') own)
   one_unread files (core spec wanted kind) code code' place place' fault own = absurd own
   one_unread files (batch list wanted) code code' place place' fault own = absurd own
   one_unread files (solve spec kind refutations) code code' place place' fault own = absurd own
@@ -210,12 +224,17 @@ module _ (problems : ProblemsOfTextsAreDetermined) (checks : ChecksAreDetermined
       let h = of_told files spec (λ text. HoldsOfFile (Some files) word (λ lines. LassoAnswers text lines bytes status)) a.answer in
       truths.of_bad_line (bytes_under files spec) (bytes_under files word) bytes status bad.flat n
       (of_told files word (λ lines. LassoAnswers (bytes_under files spec) lines bytes status) h) bad.is_flat bad.bad
+  of_line files (expand_solve spec kind nodes) bytes status n bad a = absurd bad
+  of_line files (lasso_solve spec word kind) bytes status n bad a =
+      let h = of_told files spec (λ text. HoldsOfFile (Some files) word (λ lines. LassoSolveAnswers text kind lines bytes status)) a.answer in
+      solved_truths.of_bad_line (bytes_under files spec) kind (bytes_under files word) bytes status bad.known n
+      (of_told files word (λ lines. LassoSolveAnswers (bytes_under files spec) kind lines bytes status) h) bad.is bad.bad
   of_line files (gen clients) bytes status n bad a = absurd bad
   of_line files (bench clients workers) bytes status n bad a = absurd bad
-  of_line files (verify side spec circuit) bytes status n bad a =
-      let h = of_told files spec (λ text. HoldsOfFile (Some files) circuit (λ lines. CircuitAnswers side text lines bytes status)) a.answer in
-      bad_circuit side (bytes_under files spec) (bytes_under files circuit) bytes status n
-      (of_told files circuit (λ lines. CircuitAnswers side (bytes_under files spec) lines bytes status) h) bad
+  of_line files (verify side kind spec circuit) bytes status n bad a =
+      let h = of_told files spec (λ text. HoldsOfFile (Some files) circuit (λ lines. CircuitAnswers side text kind lines bytes status)) a.answer in
+      bad_circuit side (bytes_under files spec) kind (bytes_under files circuit) bytes status n
+      (of_told files circuit (λ lines. CircuitAnswers side (bytes_under files spec) kind lines bytes status) h) bad
   of_line files (core spec wanted kind) bytes status n bad a = absurd bad
   of_line files (batch list wanted) bytes status n bad a =
       bad_list lists (Some files) (bytes_under files list) wanted bytes status n

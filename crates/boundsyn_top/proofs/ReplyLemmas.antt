@@ -1,6 +1,6 @@
 -- What makes a reply one of those that a command, and a run, may write.
 use Rattle.std.specs.Prelude.{Contains, IfOk, Result, Ok, Err, codes}
-use Rattle.std.proofs.Common.{◌≡◌, ◌≢◌, ℕ, true, false, List, [], ◌∷◌, ◌<◌, ◌≤◌, length, refl, sym, subst, ◌∙◌, arith, Option, Some, None}
+use Rattle.std.proofs.Common.{◌≡◌, ◌≢◌, ℕ, Bool, true, false, List, [], ◌∷◌, ◌<◌, ◌≤◌, length, refl, sym, subst, ◌∙◌, arith, Option, Some, None}
 use Rattle.text_limits.specs.declared.TheConstants.{SMALL_LIMITS}
 use Rattle.letters_and_lassos.specs.declared.kinds.Kind.{Kind}
 use Rattle.letters_and_lassos.specs.declared.kinds.Kind.TheVariants.{Mealy}
@@ -13,7 +13,7 @@ use Rattle.program_replies.specs.declared.replies.Status.TheVariants.{CannotRead
 use Rattle.program_replies.specs.Statuses.{status_number}
 use Rattle.program_replies.specs.Lines.{refusal_line}
 use Rattle.program_replies.specs.Refusals.{RefusedBy}
-use Rattle.program_words.specs.Settings.{Asked, EachText, Refutations, settings_of, batch, bench, check, core, expand, lasso, solve, synth, verify}
+use Rattle.program_words.specs.Settings.{Asked, EachText, Refutations, settings_of, batch, bench, check, core, expand, expand_solve, lasso, lasso_solve, solve, synth, verify}
 use Rattle.document_text.specs.declared.documents.Verdict.{Verdict}
 use Rattle.document_text.specs.declared.documents.Verdict.TheVariants as verdict
 use Rattle.bench_answer.specs.Bench.{BenchAnswer, HasStatus}
@@ -29,11 +29,9 @@ use Rattle.spec_problems.specs.declared.texts.TextProblems.{TextProblems}
 use Rattle.synth_engine.specs.declared.settings.Settings.{Settings}
 use Rattle.synth_answer.specs.Answer.{Answers, realizable, unrealizable, bounded, no_size, no_entries}
 use Rattle.synth_answer.specs.Answer as synthesis
-use Rattle.text_ground.specs.declared.texts.Problems.{Problems}
-use Rattle.text_ground.specs.declared.texts.Problems.TheVariants.{Of, Refused}
-use Rattle.check_answer.specs.Answer.{CheckAnswers}
+use Rattle.check_answer.specs.Answer.{CheckAnswers, IsTakenBySolve}
 use Rattle.check_answer.specs.Answer as certificate
-use Rattle.check_answer.specs.Reply.{CanBeTested, IsForCertificates, IsForCheck}
+use Rattle.check_answer.specs.Reply.{IsForCheck}
 use Rattle.letters_and_lassos.specs.declared.kinds.Side.{Side}
 use Rattle.letters_and_lassos.specs.declared.kinds.Side.TheVariants.{Environment, System}
 use Rattle.solve_ground.specs.declared.texts.SolveText.{SolveText}
@@ -42,6 +40,7 @@ use Rattle.verify_answer.specs.Answer.{CircuitAnswers, TestAnswers, VerifyAnswer
 use Rattle.verify_answer.specs.Answer as circuits
 use Rattle.core_answer.specs.Core.{CoreAnswers}
 use Rattle.core_answer.specs.Core as cores
+use Rattle.solve_ground.specs.Laws.{SolveTextsAreDetermined}
 use Rattle.solve_ground.specs.SolveText as solving
 use Rattle.solve_answer.specs.Answer.{LogLimits, SolveAnswers}
 use Rattle.solve_answer.specs.Answer as solved
@@ -53,9 +52,15 @@ use Rattle.flat_answer.specs.Expand.{ExpandAnswers, written}
 use Rattle.flat_answer.specs.Expand as expansion
 use Rattle.flat_answer.specs.Lasso.{LassoAnswers}
 use Rattle.flat_answer.specs.Lasso as lassos
+use Rattle.solved_flat.specs.Expand.{ExpandSolveAnswers}
+use Rattle.solved_flat.specs.Expand as solved_expansion
+use Rattle.solved_flat.specs.Lasso.{LassoSolveAnswers}
+use Rattle.solved_flat.specs.Lasso as solved_lassos
+use Rattle.solved_flat.specs.Taken.{IsTaken}
+use Rattle.solved_flat.specs.declared.texts.TakenText.{TakenText}
 use Rattle.boundsyn_top.specs.declared.output.Output.{Output}
 use Rattle.boundsyn_top.specs.declared.output.Output.TheVariants.{Whole}
-use Rattle.boundsyn_top.specs.Output.{IsExpansion, IsWholeOf, bytes_of, status_of}
+use Rattle.boundsyn_top.specs.Output.{IsExpansion, IsSolveExpansion, IsWholeOf, bytes_of, status_of}
 use Rattle.boundsyn_top.specs.Files as file
 use Rattle.boundsyn_top.specs.Files.{AreOfFile, HoldsOfFile, IsUntaken}
 use Rattle.boundsyn_top.specs.Commands.{MayAnswer, statuses_of}
@@ -100,20 +105,16 @@ untaken_by words told asked name is foreign = foreign asked (record { settings =
 pub not_first : (told : Option Files) (asked : Asked) (spec name : List ℕ) → first_file asked ≡ spec ∷ [] → (TakesFile told asked name → ⊥) → name ≢ spec
 not_first told asked spec name is other = λ same. other (takes.first (subst (λ xs. Contains xs name) (sym is) (0, omega arith, sym same)))
 
--- a certificate is taken for a text that isn't refused in any case
-pub takes_certificates : (text : List ℕ) (found : Problems) → ProblemsOfTextsAreDetermined → IsForCertificates text found → TakesCertificates text
-takes_certificates text (Of t) law taken = record {
-  unless = λ r. law.no_fault text (Some Mealy) _ (spec_seen t.spec) t.problems r.code r.place taken.text_with.are r.fault;
-}
-takes_certificates text (Refused reply) law alone = record { unless = λ r. alone.taken.none r.larger_code r.larger_place r.larger }
-
-pub can_be_tested : (text : List ℕ) (found : Problems) → IsForCertificates text found → CanBeTested found
-can_be_tested text (Of t) taken = taken.facts
-can_be_tested text (Refused reply) alone = tt
+-- a certificate is taken for a text that `solve` takes
+pub takes_certificates : (text : List ℕ) → IsTakenBySolve text → TakesCertificates text
+takes_certificates text taken = record { unless = λ r. taken.none r.larger_code r.larger_place r.larger }
 
 -- a text that is taken, or a flat form, has no fault
-pub taken_without_fault : (text : List ℕ) (known : SolveText) → IsTestable text known → HasNone (solving.IsSolveFault text None)
-taken_without_fault text known taken = record { none = taken.no_fault }
+pub taken_without_fault : (text : List ℕ) (kind : Option Kind) (known : SolveText) → IsTestable text kind known → HasNone (solving.IsSolveFault text kind)
+taken_without_fault text kind known taken = record { none = taken.no_fault }
+
+pub solved_without_fault : SolveTextsAreDetermined → (text : List ℕ) (kind : Option Kind) (t : TakenText) → IsTaken text kind t → HasNone (solving.IsSolveFault text kind)
+solved_without_fault law text kind t taken = record { none = λ code place fault. law.no_fault text kind t.known code place taken.known fault }
 
 pub flat_without_fault : (text : List ℕ) (flat : FlatText) → FlatTextsHaveNoFault → IsFlatOf SMALL_LIMITS text None flat → HasNone (IsFlatFault SMALL_LIMITS text None)
 flat_without_fault text flat law is_flat = record { none = λ code place fault. law SMALL_LIMITS text None flat code place is_flat fault }
@@ -130,11 +131,18 @@ lasso_goes_on (Some files) spec word text are none = record {
   unless = λ stops. (subst (λ t. HasNone (IsFlatFault SMALL_LIMITS t None)) are none).none stops.code stops.place stops.fault;
 }
 
-pub verify_goes_on : (side : Side) (told : Option Files) (spec circuit text : List ℕ) → AreOfFile told spec text → HasNone (solving.IsSolveFault text None) →
-    GoesOn told (verify side spec circuit)
-verify_goes_on side None spec circuit text are none = record { unless = tt }
-verify_goes_on side (Some files) spec circuit text are none = record {
-  unless = λ stops. (subst (λ t. HasNone (solving.IsSolveFault t None)) are none).none stops.code stops.place stops.fault;
+pub lasso_solve_goes_on : (kind : Option Kind) (told : Option Files) (spec word text : List ℕ) → AreOfFile told spec text → HasNone (solving.IsSolveFault text kind) →
+    GoesOn told (lasso_solve spec word kind)
+lasso_solve_goes_on kind None spec word text are none = record { unless = tt }
+lasso_solve_goes_on kind (Some files) spec word text are none = record {
+  unless = λ stops. (subst (λ t. HasNone (solving.IsSolveFault t kind)) are none).none stops.code stops.place stops.fault;
+}
+
+pub verify_goes_on : (side : Side) (kind : Option Kind) (told : Option Files) (spec circuit text : List ℕ) → AreOfFile told spec text →
+    HasNone (solving.IsSolveFault text kind) → GoesOn told (verify side kind spec circuit)
+verify_goes_on side kind None spec circuit text are none = record { unless = tt }
+verify_goes_on side kind (Some files) spec circuit text are none = record {
+  unless = λ stops. (subst (λ t. HasNone (solving.IsSolveFault t kind)) are none).none stops.code stops.place stops.fault;
 }
 
 -- a text that has no fault as `synth` takes it
@@ -148,19 +156,23 @@ check_without_fault (Some files) spec certificate text are none = record {
   };
 }
 
-pub verify_without_fault : (side : Side) (told : Option Files) (spec circuit text : List ℕ) → AreOfFile told spec text → HasNone (IsSynthFault side text) →
-    HasNoSynthFault told (verify side spec circuit)
-verify_without_fault side None spec circuit text are none = record { none = tt }
-verify_without_fault side (Some files) spec circuit text are none = record {
+pub verify_without_fault : (side : Side) (kind : Option Kind) (told : Option Files) (spec circuit text : List ℕ) → AreOfFile told spec text →
+    HasNone (IsSynthFault side text kind) → HasNoSynthFault told (verify side kind spec circuit)
+verify_without_fault side kind None spec circuit text are none = record { none = tt }
+verify_without_fault side kind (Some files) spec circuit text are none = record {
   none = record {
-    none = λ code place fault. none.none code place (subst (λ t. IsSynthFault side t code place) (sym are)
-        (of_told files spec (λ t. IsSynthFault side t code place) fault));
+    none = λ code place fault. none.none code place (subst (λ t. IsSynthFault side t kind code place) (sym are)
+        (of_told files spec (λ t. IsSynthFault side t kind code place) fault));
   };
 }
 
 lasso_without_fault : (told : Option Files) (spec word : List ℕ) → HasNoSynthFault told (lasso spec word)
 lasso_without_fault None spec word = record { none = tt }
 lasso_without_fault (Some files) spec word = record { none = record { none = λ code place fault. fault } }
+
+lasso_solve_without_fault : (kind : Option Kind) (told : Option Files) (spec word : List ℕ) → HasNoSynthFault told (lasso_solve spec word kind)
+lasso_solve_without_fault kind None spec word = record { none = tt }
+lasso_solve_without_fault kind (Some files) spec word = record { none = record { none = λ code place fault. fault } }
 
 list_without_fault : (told : Option Files) (list : List ℕ) (wanted : EachText) → HasNoSynthFault told (batch list wanted)
 list_without_fault None list wanted = record { none = tt }
@@ -179,10 +191,10 @@ fault_told Fault bytes status refused = of_fault refused.code refused.place refu
 
 -- problems leave no fault
 pub check_has_none : (text : List ℕ) (t : TextProblems) → ProblemsOfTextsAreDetermined → IsForCheck text t → HasNone (IsFirstFault text (Some Mealy))
-check_has_none text t law taken = record { none = λ code place fault. law.no_fault text (Some Mealy) _ (spec_seen t.spec) t.problems code place taken.text_with.are fault }
+check_has_none text t law known = record { none = λ code place fault. law.no_fault text (Some Mealy) _ (spec_seen t.spec) t.problems code place known.text_with.are fault }
 
-pub verify_has_none : (text : List ℕ) (t : TextProblems) → ProblemsOfTextsAreDetermined → IsForVerify text t → HasNone (IsSynthFault System text)
-verify_has_none text t law taken = record { none = λ code place fault. law.no_fault text None _ (spec_seen t.spec) t.problems code place taken.text_with.are fault }
+pub verify_has_none : (text : List ℕ) (kind : Option Kind) (t : TextProblems) → ProblemsOfTextsAreDetermined → IsForVerify text kind t → HasNone (IsSynthFault System text kind)
+verify_has_none text kind t law taken = record { none = λ code place fault. law.no_fault text kind _ (spec_seen t.spec) t.problems code place taken.text_with.are fault }
 
 -- a name of a list is taken, where the list has no bad line
 pub listed_taken : (told : Option Files) (list : List ℕ) (wanted : EachText) (lines name : List ℕ) → AreOfFile told list lines → IsListed lines name →
@@ -241,6 +253,17 @@ lasso_status text word bytes status (lassos.refused code place is fault line) = 
 lasso_status text word bytes status (lassos.bad_line spec n is flat bad line) = (2, omega arith, sym is)
 lasso_status text word bytes status (lassos.told truth is holds line) = (0, omega arith, sym is)
 
+expand_solve_status : (text : List ℕ) (kind : Option Kind) (nodes : Bool) (bytes : List ℕ) (status : ℕ) → ExpandSolveAnswers text kind nodes bytes status →
+    Contains (0 ∷ 1 ∷ []) status
+expand_solve_status text kind nodes bytes status (solved_expansion.refused code place is fault line) = (1, omega arith, sym is)
+expand_solve_status text kind nodes bytes status (solved_expansion.written known taken is line) = (0, omega arith, sym is)
+
+lasso_solve_status : (text : List ℕ) (kind : Option Kind) (word bytes : List ℕ) (status : ℕ) → LassoSolveAnswers text kind word bytes status →
+    Contains (0 ∷ 1 ∷ 40 ∷ []) status
+lasso_solve_status text kind word bytes status (solved_lassos.refused code place is fault line) = (1, omega arith, sym is)
+lasso_solve_status text kind word bytes status (solved_lassos.bad_line known taken n is bad line) = (2, omega arith, sym is)
+lasso_solve_status text kind word bytes status (solved_lassos.told truth is holds line) = (0, omega arith, sym is)
+
 bench_status : (v : Verdict) (status : ℕ) → HasStatus v status → Contains (10 ∷ 20 ∷ 30 ∷ []) status
 bench_status (verdict.Machine System n true) status is = (0, omega arith, sym is)
 bench_status (verdict.Machine Environment n true) status is = (1, omega arith, sym is)
@@ -249,29 +272,29 @@ bench_status (verdict.Machine Environment n false) status is = absurd is
 bench_status (verdict.Unknown None) status is = (2, omega arith, sym is)
 bench_status (verdict.Unknown (Some place)) status is = absurd is
 
-test_status : (side : Side) (text circuit : List ℕ) (t : SolveText) (bytes : List ℕ) (status : ℕ) → TestAnswers side text circuit t bytes status →
-    Contains (0 ∷ 1 ∷ 40 ∷ []) status
-test_status side text circuit t bytes status (circuits.line_fails n is bad line) = (2, omega arith, sym is)
-test_status side text circuit t bytes status (circuits.shown is holds line) = (0, omega arith, sym is)
+module _ (text : List ℕ) (kind : Option Kind) (circuit bytes : List ℕ) (status : ℕ) where
+  test_status : (side : Side) (t : SolveText) → TestAnswers side text kind circuit t bytes status → Contains (0 ∷ 1 ∷ 40 ∷ []) status
+  test_status side t (circuits.line_fails n is bad line) = (2, omega arith, sym is)
+  test_status side t (circuits.shown is holds line) = (0, omega arith, sym is)
 
-system_status : (text circuit bytes : List ℕ) (status : ℕ) → VerifyAnswers text circuit bytes status → Contains (0 ∷ 1 ∷ 40 ∷ []) status
-system_status text circuit bytes status (circuits.refused code place is fault why line) = (1, omega arith, sym is)
-system_status text circuit bytes status (circuits.bad_line given n is unnamed bad line) = (2, omega arith, sym is)
-system_status text circuit bytes status (circuits.verified given is unnamed holds line) = (0, omega arith, sym is)
-system_status text circuit bytes status (circuits.of_states given names tested) = test_status System text circuit given.known bytes status tested
+  system_status : VerifyAnswers text kind circuit bytes status → Contains (0 ∷ 1 ∷ 40 ∷ []) status
+  system_status (circuits.refused code place is fault why line) = (1, omega arith, sym is)
+  system_status (circuits.bad_line given n is unnamed bad line) = (2, omega arith, sym is)
+  system_status (circuits.verified given is unnamed holds line) = (0, omega arith, sym is)
+  system_status (circuits.of_states given names tested) = test_status System given.known tested
 
-verify_status : (side : Side) (text circuit bytes : List ℕ) (status : ℕ) → CircuitAnswers side text circuit bytes status → Contains (0 ∷ 1 ∷ 40 ∷ []) status
-verify_status System text circuit bytes status answer = system_status text circuit bytes status answer
-verify_status Environment text circuit bytes status (circuits.text_refused code place is fault line) = (1, omega arith, sym is)
-verify_status Environment text circuit bytes status (circuits.of_text given tested) = test_status Environment text circuit given.known bytes status tested
+  verify_status : (side : Side) → CircuitAnswers side text kind circuit bytes status → Contains (0 ∷ 1 ∷ 40 ∷ []) status
+  verify_status System answer = system_status answer
+  verify_status Environment (circuits.text_refused code place is fault line) = (1, omega arith, sym is)
+  verify_status Environment (circuits.of_text given tested) = test_status Environment given.known tested
 
--- a text that is too long is refused for either side
-verify_too_long : (side : Side) (text circuit bytes : List ℕ) (status : ℕ) → IsReadingFault text TooLong most_bytes → bytes ≡ refusal_line TooLong most_bytes → status ≡ 1
-    → CircuitAnswers side text circuit bytes status
-verify_too_long System text circuit bytes status fault is ended =
-    circuits.refused TooLong most_bytes ended (of_text TooLong most_bytes (of_reading TooLong most_bytes fault))
-    (circuits.refused_by_solve TooLong most_bytes (solving.of_reading TooLong most_bytes fault)) is
-verify_too_long Environment text circuit bytes status fault is ended = circuits.text_refused TooLong most_bytes ended (solving.of_reading TooLong most_bytes fault) is
+  -- a text that is too long is refused for either side
+  verify_too_long : (side : Side) → IsReadingFault text TooLong most_bytes → bytes ≡ refusal_line TooLong most_bytes → status ≡ 1
+      → CircuitAnswers side text kind circuit bytes status
+  verify_too_long System fault is ended =
+      circuits.refused TooLong most_bytes ended (of_text TooLong most_bytes (of_reading TooLong most_bytes fault))
+      (circuits.refused_by_solve TooLong most_bytes (solving.of_reading TooLong most_bytes fault)) is
+  verify_too_long Environment fault is ended = circuits.text_refused TooLong most_bytes ended (solving.of_reading TooLong most_bytes fault) is
 
 core_status : (text : List ℕ) (kind : Option Kind) (settings : Settings) (bytes : List ℕ) (status : ℕ) →
     CoreAnswers text kind settings bytes status → Contains (1 ∷ 10 ∷ 11 ∷ 20 ∷ 30 ∷ []) status
@@ -448,6 +471,40 @@ module _ (step : ShelfStep) where
       (HasNone (IsFlatFault SMALL_LIMITS text None)) (λ t code place. ⊥) (λ due. (refl, lasso_goes_on step.files spec word text are due)) (λ code place h. h.holds)
       (1, omega arith, refl) text are (λ none. lasso_without_fault step.files spec word) told middle bytes status same
 
+  -- == expand and lasso, of a text as `solve` takes it ==
+
+  pub expand_solve_answered : (spec text : List ℕ) (kind : Option Kind) (nodes : Bool) (output : Output) → AreOfFile step.files spec text →
+      IsSolveExpansion text kind nodes output → IsOutputOf step (expand_solve spec kind nodes) output
+  expand_solve_answered spec text kind nodes output are e = record {
+    replies = replies (expand_solve spec kind nodes) (bytes_of output) (status_of output)
+        (expand_solve_status text kind nodes (bytes_of output) (status_of output) e.answers) (record { bytes = text; are_told = are; holds = e.answers }) tt;
+    writable = e.writable;
+  }
+
+  pub expand_solve_untaken : (spec : List ℕ) (kind : Option Kind) (nodes : Bool) (bytes : List ℕ) (status : ℕ) →
+      IsUntaken step spec bytes status → RepliesTo step (expand_solve spec kind nodes) bytes status
+  expand_solve_untaken spec kind nodes bytes status =
+      untaken (expand_solve spec kind nodes) spec bytes status (0, omega arith, refl)
+      (λ text are long is ended. replies (expand_solve spec kind nodes) bytes status (1, omega arith, sym ended)
+      (record { bytes = text; are_told = are; holds = solved_expansion.refused TooLong most_bytes ended (solving.of_reading TooLong most_bytes (too_long long)) is }) tt)
+
+  pub lasso_solve_untaken : (spec word : List ℕ) (kind : Option Kind) (bytes : List ℕ) (status : ℕ) →
+      IsUntaken step spec bytes status → RepliesTo step (lasso_solve spec word kind) bytes status
+  lasso_solve_untaken spec word kind =
+      text_untaken (lasso_solve spec word kind) spec word (λ text lines bytes status. LassoSolveAnswers text kind lines bytes status) (λ bytes status h. h)
+      (λ text lines bytes status answer. lasso_solve_status text kind lines bytes status answer) (λ same. same) (0, omega arith, refl)
+      (λ text lines bytes status fault is ended. solved_lassos.refused TooLong most_bytes ended (solving.of_reading TooLong most_bytes fault) is)
+
+  pub lasso_solve_by_file : (kind : Option Kind) (told : Option Files) (middle : List ℕ → ℕ) (spec word text : List ℕ) (bytes : List ℕ) (status : ℕ) → told ≡ step.files →
+      AreOfFile step.files spec text → ((any : List ℕ) → middle any ≡ step.before any) →
+      RepliesByFile (rest_from told middle) word (HasNone (solving.IsSolveFault text kind)) (λ code place. ⊥) (λ lines. LassoSolveAnswers text kind lines bytes status) bytes status →
+      RepliesTo step (lasso_solve spec word kind) bytes status
+  lasso_solve_by_file kind told middle spec word text bytes status same are =
+      by_file (lasso_solve spec word kind) spec word (λ t lines bytes status. LassoSolveAnswers t kind lines bytes status) (λ bytes status h. h)
+      (λ t lines bytes status answer. lasso_solve_status t kind lines bytes status answer) (λ read. read)
+      (HasNone (solving.IsSolveFault text kind)) (λ t code place. ⊥) (λ due. (refl, lasso_solve_goes_on kind step.files spec word text are due)) (λ code place h. h.holds)
+      (1, omega arith, refl) text are (λ none. lasso_solve_without_fault kind step.files spec word) told middle bytes status same
+
   -- == gen and bench ==
 
   pub bench_answered : (clients workers : ℕ) (bytes : List ℕ) (status : ℕ) → BenchAnswer clients workers bytes status →
@@ -457,20 +514,22 @@ module _ (step : ShelfStep) where
 
   -- == verify ==
 
-  pub verify_untaken : (side : Side) (spec circuit : List ℕ) (bytes : List ℕ) (status : ℕ) →
-      IsUntaken step spec bytes status → RepliesTo step (verify side spec circuit) bytes status
-  verify_untaken side spec circuit bytes status =
-      text_untaken (verify side spec circuit) spec circuit (CircuitAnswers side) (λ bytes status h. h) (verify_status side) (λ same. same) (0, omega arith, refl)
-      (λ text lines bytes status fault is ended. verify_too_long side text lines bytes status fault is ended) bytes status
+  pub verify_untaken : (side : Side) (kind : Option Kind) (spec circuit : List ℕ) (bytes : List ℕ) (status : ℕ) →
+      IsUntaken step spec bytes status → RepliesTo step (verify side kind spec circuit) bytes status
+  verify_untaken side kind spec circuit bytes status =
+      text_untaken (verify side kind spec circuit) spec circuit (λ text lines bytes status. CircuitAnswers side text kind lines bytes status) (λ bytes status h. h)
+      (λ text lines bytes status answer. verify_status text kind lines bytes status side answer) (λ same. same) (0, omega arith, refl)
+      (λ text lines bytes status fault is ended. verify_too_long text kind lines bytes status side fault is ended) bytes status
 
-  pub verify_by_file : (side : Side) (told : Option Files) (middle : List ℕ → ℕ) (spec circuit text : List ℕ) (bytes : List ℕ) (status : ℕ) → told ≡ step.files →
+  pub verify_by_file : (side : Side) (kind : Option Kind) (told : Option Files) (middle : List ℕ → ℕ) (spec circuit text : List ℕ) (bytes : List ℕ) (status : ℕ) → told ≡ step.files →
       AreOfFile step.files spec text → ((any : List ℕ) → middle any ≡ step.before any) →
-      RepliesByFile (rest_from told middle) circuit (HasNone (solving.IsSolveFault text None)) (IsSynthFault side text) (λ lines. CircuitAnswers side text lines bytes status) bytes status →
-      RepliesTo step (verify side spec circuit) bytes status
-  verify_by_file side told middle spec circuit text bytes status same are =
-      by_file (verify side spec circuit) spec circuit (CircuitAnswers side) (λ bytes status h. h) (verify_status side) (λ read. read)
-      (HasNone (solving.IsSolveFault text None)) (IsSynthFault side) (λ due. (refl, verify_goes_on side step.files spec circuit text are due)) (λ code place h. h)
-      (1, omega arith, refl) text are (verify_without_fault side step.files spec circuit text are) told middle bytes status same
+      RepliesByFile (rest_from told middle) circuit (HasNone (solving.IsSolveFault text kind)) (IsSynthFault side text kind) (λ lines. CircuitAnswers side text kind lines bytes status) bytes status →
+      RepliesTo step (verify side kind spec circuit) bytes status
+  verify_by_file side kind told middle spec circuit text bytes status same are =
+      by_file (verify side kind spec circuit) spec circuit (λ t lines bytes status. CircuitAnswers side t kind lines bytes status) (λ bytes status h. h)
+      (λ t lines bytes status answer. verify_status t kind lines bytes status side answer) (λ read. read)
+      (HasNone (solving.IsSolveFault text kind)) (λ t. IsSynthFault side t kind) (λ due. (refl, verify_goes_on side kind step.files spec circuit text are due)) (λ code place h. h)
+      (1, omega arith, refl) text are (verify_without_fault side kind step.files spec circuit text are) told middle bytes status same
 
   -- == core ==
 

@@ -12,7 +12,7 @@ use Rattle.input_output.proofs.GainLemmas.{gains_nothing}
 use Rattle.spec_faults.specs.declared.code.SpecCode.{SpecCode}
 use Rattle.program_replies.specs.Lines.{line_refusal, refusal_line}
 use Rattle.program_replies.proofs.RefusalLemmas.{one_refusal}
-use Rattle.program_words.specs.Settings.{Asked, synth, check, expand, lasso, gen, bench, verify, core, batch, solve}
+use Rattle.program_words.specs.Settings.{Asked, synth, check, expand, expand_solve, lasso, lasso_solve, gen, bench, verify, core, batch, solve}
 use Rattle.boundsyn_top.specs.Commands.{AnswersAsked, statuses_of}
 use Rattle.boundsyn_top.specs.Faults.{HasSynthFault, RefusalsAreDetermined}
 use Rattle.boundsyn_top.specs.Run.{AnswersStep, AnswersWords, AskForNothing, Asks, EndsWith, Gained, GainedPart, IsEnding, IsForeign, IsReply, IsStopped, LineFails, ReadFailed, ReadsWell, TextFails, TextFailsUnread, answered, answering, cannot_read, of_files, of_unread, prevented, says, words_refused}
@@ -89,6 +89,13 @@ all_answering (check spec certificate) =
 all_answering (expand spec) =
     All-cons IsAnswering 0 (1 ∷ []) answering_0
     (All-cons IsAnswering 1 [] answering_1 (All-nil IsAnswering))
+all_answering (expand_solve spec kind nodes) =
+    All-cons IsAnswering 0 (1 ∷ []) answering_0
+    (All-cons IsAnswering 1 [] answering_1 (All-nil IsAnswering))
+all_answering (lasso_solve spec word kind) =
+    All-cons IsAnswering 0 (1 ∷ 40 ∷ []) answering_0
+    (All-cons IsAnswering 1 (40 ∷ []) answering_1
+    (All-cons IsAnswering 40 [] answering_40 (All-nil IsAnswering)))
 all_answering (lasso spec word) =
     All-cons IsAnswering 0 (1 ∷ 40 ∷ []) answering_0
     (All-cons IsAnswering 1 (40 ∷ []) answering_1
@@ -99,7 +106,7 @@ all_answering (bench clients workers) =
     All-cons IsAnswering 10 (20 ∷ 30 ∷ []) answering_10
     (All-cons IsAnswering 20 (30 ∷ []) answering_20
     (All-cons IsAnswering 30 [] answering_30 (All-nil IsAnswering)))
-all_answering (verify side spec circuit) =
+all_answering (verify side kind spec circuit) =
     All-cons IsAnswering 0 (1 ∷ 40 ∷ []) answering_0
     (All-cons IsAnswering 1 (40 ∷ []) answering_1
     (All-cons IsAnswering 40 [] answering_40 (All-nil IsAnswering)))
@@ -320,10 +327,12 @@ none_behind : (files : Files) (asked : Asked) (name : List ℕ) → Stops files 
 none_behind files (synth spec wanted kind) name stops taken = taken
 none_behind files (check spec certificate) name stops taken = taken.1.unless stops
 none_behind files (expand spec) name stops taken = taken
+none_behind files (expand_solve spec kind nodes) name stops taken = taken
 none_behind files (lasso spec word) name stops taken = taken.1.unless stops
+none_behind files (lasso_solve spec word kind) name stops taken = taken.1.unless stops
 none_behind files (gen clients) name stops taken = taken
 none_behind files (bench clients workers) name stops taken = taken
-none_behind files (verify side spec circuit) name stops taken = taken.1.unless stops
+none_behind files (verify side kind spec circuit) name stops taken = taken.1.unless stops
 none_behind files (core spec wanted kind) name stops taken = taken
 none_behind files (batch list wanted) name stops taken = taken.1.unless stops
 none_behind files (solve spec kind refutations) name stops taken = taken

@@ -7,9 +7,9 @@ use Rattle.program_words.specs.Settings.{Refutations}
 
 -- how far smaller machines are refuted, as it is asked for
 abbrev pub refutations_by : Refuting → Refutations
-refutations_by refuting = record { max = refuting.max; entries = refuting.entries; workers = refuting.workers }
+refutations_by refuting = record { max = refuting.max; entries = refuting.entries; workers = refuting.workers; seconds = refuting.seconds }
 
--- how far a document may refute then, however many workers search
+-- how far a document may refute then, however many workers search and however long
 abbrev pub limits_by : Refutations → LogLimits
 limits_by refutations = record { max = refutations.max; entries = refutations.entries }
 

@@ -2,7 +2,7 @@
 use Rattle.std.specs.Prelude.{◌≡◌, ℕ, Option, List, [], ◌∷◌, IfSome, Contains}
 use Rattle.spec_faults.specs.declared.code.SpecCode.{SpecCode}
 use Rattle.input_output.specs.Files.{Files, bytes_under}
-use Rattle.program_words.specs.Settings.{Asked, synth, check, expand, lasso, gen, bench, verify, core, batch, solve}
+use Rattle.program_words.specs.Settings.{Asked, synth, check, expand, expand_solve, lasso, lasso_solve, gen, bench, verify, core, batch, solve}
 use Rattle.boundsyn_top.specs.Batch.{IsBadList, IsListed}
 use Rattle.boundsyn_top.specs.Faults.{HasFault, IsRefusedAnyway, IsRefusedBySolve}
 
@@ -11,10 +11,12 @@ abbrev pub first_file : Asked → List (List ℕ)
 first_file (synth spec wanted kind) = spec ∷ []
 first_file (check spec certificate) = spec ∷ []
 first_file (expand spec) = spec ∷ []
+first_file (expand_solve spec kind nodes) = spec ∷ []
 first_file (lasso spec word) = spec ∷ []
+first_file (lasso_solve spec word kind) = spec ∷ []
 first_file (gen clients) = []
 first_file (bench clients workers) = []
-first_file (verify side spec circuit) = spec ∷ []
+first_file (verify side kind spec circuit) = spec ∷ []
 first_file (core spec wanted kind) = spec ∷ []
 first_file (batch list wanted) = list ∷ []
 first_file (solve spec kind refutations) = spec ∷ []
@@ -30,10 +32,12 @@ abbrev pub Stops : Files → Asked → Type 0
 Stops files (synth spec wanted kind) = IsFaulty files (synth spec wanted kind)
 Stops files (check spec certificate) = IsRefusedAnyway (bytes_under files spec)
 Stops files (expand spec) = IsFaulty files (expand spec)
+Stops files (expand_solve spec kind nodes) = IsFaulty files (expand_solve spec kind nodes)
 Stops files (lasso spec word) = IsFaulty files (lasso spec word)
+Stops files (lasso_solve spec word kind) = IsFaulty files (lasso_solve spec word kind)
 Stops files (gen clients) = ⊥
 Stops files (bench clients workers) = ⊥
-Stops files (verify side spec circuit) = IsRefusedBySolve (bytes_under files spec)
+Stops files (verify side kind spec circuit) = IsRefusedBySolve (bytes_under files spec) kind
 Stops files (core spec wanted kind) = IsFaulty files (core spec wanted kind)
 Stops files (batch list wanted) = IsBadList (bytes_under files list)
 Stops files (solve spec kind refutations) = IsFaulty files (solve spec kind refutations)
@@ -47,10 +51,12 @@ abbrev pub TakesBehind : Option Files → Asked → List ℕ → Type 0
 TakesBehind told (synth spec wanted kind) name = ⊥
 TakesBehind told (check spec certificate) name = (name ≡ certificate) × GoesOn told (check spec certificate)
 TakesBehind told (expand spec) name = ⊥
+TakesBehind told (expand_solve spec kind nodes) name = ⊥
 TakesBehind told (lasso spec word) name = (name ≡ word) × GoesOn told (lasso spec word)
+TakesBehind told (lasso_solve spec word kind) name = (name ≡ word) × GoesOn told (lasso_solve spec word kind)
 TakesBehind told (gen clients) name = ⊥
 TakesBehind told (bench clients workers) name = ⊥
-TakesBehind told (verify side spec circuit) name = (name ≡ circuit) × GoesOn told (verify side spec circuit)
+TakesBehind told (verify side kind spec circuit) name = (name ≡ circuit) × GoesOn told (verify side kind spec circuit)
 TakesBehind told (core spec wanted kind) name = ⊥
 TakesBehind told (batch list wanted) name = IfSome told (λ files. IsListed (bytes_under files list) name) × GoesOn told (batch list wanted)
 TakesBehind told (solve spec kind refutations) name = ⊥

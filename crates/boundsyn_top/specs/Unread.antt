@@ -5,7 +5,7 @@ use Rattle.std.specs.Prelude.{◌≡◌, ⊤, ℕ, List, Contains, codes}
 use Rattle.spec_faults.specs.declared.code.SpecCode.{SpecCode}
 use Rattle.input_output.specs.Faults.{Rose}
 use Rattle.program_replies.specs.Lines.{refusal_line}
-use Rattle.program_words.specs.Settings.{Asked, synth, check, expand, lasso, gen, bench, verify, core, batch, solve}
+use Rattle.program_words.specs.Settings.{Asked, synth, check, expand, expand_solve, lasso, lasso_solve, gen, bench, verify, core, batch, solve}
 use Rattle.boundsyn_top.specs.Faults.{HasNoSynthFault, HasNone, HasSynthFault}
 use Rattle.boundsyn_top.specs.Files.{HoldsOfFile}
 use Rattle.boundsyn_top.specs.Steps.{ShelfStep}
@@ -43,10 +43,12 @@ abbrev pub IsReadBehind : ShelfStep → Asked → Type 0
 IsReadBehind step (synth spec wanted kind) = ⊤
 IsReadBehind step (check spec certificate) = step.after certificate ≡ step.before certificate
 IsReadBehind step (expand spec) = ⊤
+IsReadBehind step (expand_solve spec kind nodes) = ⊤
 IsReadBehind step (lasso spec word) = step.after word ≡ step.before word
+IsReadBehind step (lasso_solve spec word kind) = step.after word ≡ step.before word
 IsReadBehind step (gen clients) = ⊤
 IsReadBehind step (bench clients workers) = ⊤
-IsReadBehind step (verify side spec circuit) = step.after circuit ≡ step.before circuit
+IsReadBehind step (verify side kind spec circuit) = step.after circuit ≡ step.before circuit
 IsReadBehind step (core spec wanted kind) = ⊤
 IsReadBehind step (batch list wanted) = ⊤
 IsReadBehind step (solve spec kind refutations) = ⊤

@@ -25,6 +25,7 @@ use std::alloc::{AllocError, Global};
 use std::sync::Wait;
 use std::thread::Threads;
 use synth_engine::Settings;
+use time_limits::Stopwatch;
 
 /// What is done with each text of a list.
 #[derive(Clone, Copy)]
@@ -36,19 +37,21 @@ pub enum ListWish {
 }
 
 /// Answers the texts that a list names. They are taken only where the list has no bad line, and all before the first is answered.
-pub(crate) fn answer_list<R, H, G, L>(
+pub(crate) fn answer_list<R, H, G, S, L>(
     rt: &R,
     alloc: Global,
     shelf: &mut H,
     list: &str,
     wanted: ListWish,
     gate: &G,
+    stopwatch: &S,
     listener: &mut L,
 ) -> Result<Output, AllocError>
 where
     R: Threads + Wait + Sync,
     H: Shelf,
     G: Gate + Sync,
+    S: Stopwatch + Sync,
     L: Listener,
     requires workers { HasWorkers wanted }
     ensures output { IfOk result (IsOutputOf (step_of H.files H.faults shelf.old shelf.new) (batch list.now (wished wanted))) }
@@ -56,25 +59,29 @@ where
     ensures other_files { (name : List ℕ) → ¬ TakesFile (H.files shelf.old) (batch list.now (wished wanted)) name → H.faults shelf.new name ≡ H.faults shelf.old name }
 {
     match take_whole(alloc, shelf, list)? {
-        Some(lines) => whole_output(answer_lines(rt, alloc, shelf, &lines, wanted, gate, listener)),
+        Some(lines) => whole_output(answer_lines(
+            rt, alloc, shelf, &lines, wanted, gate, stopwatch, listener,
+        )),
         None => whole_output(cannot_read(alloc)),
     }
 }
 
 /// Answers the texts that these lines name, unless a line is bad.
-fn answer_lines<R, H, G, L>(
+fn answer_lines<R, H, G, S, L>(
     rt: &R,
     alloc: Global,
     shelf: &mut H,
     lines: &[u8],
     wanted: ListWish,
     gate: &G,
+    stopwatch: &S,
     listener: &mut L,
 ) -> Result<Reply, AllocError>
 where
     R: Threads + Wait + Sync,
     H: Shelf,
     G: Gate + Sync,
+    S: Stopwatch + Sync,
     L: Listener,
     requires workers { HasWorkers wanted }
     ensures reply { IfOk result (λ r. RepliesByLines (step_of H.files H.faults shelf.old shelf.new)
@@ -84,7 +91,7 @@ where
 {
     lists_are_determined();
     match read_list(alloc, lines) {
-        Ok(names) => answer_texts(rt, alloc, shelf, &names, wanted, gate, listener),
+        Ok(names) => answer_texts(rt, alloc, shelf, &names, wanted, gate, stopwatch, listener),
         Err(fault) => list_refusal(alloc, fault),
     }
 }
@@ -100,19 +107,21 @@ fn list_refusal(alloc: Global, fault: ListFault) -> Result<Reply, AllocError>
 }
 
 /// Takes the texts of these names, and answers them.
-fn answer_texts<R, H, G, L>(
+fn answer_texts<R, H, G, S, L>(
     rt: &R,
     alloc: Global,
     shelf: &mut H,
     names: &[FileName],
     wanted: ListWish,
     gate: &G,
+    stopwatch: &S,
     listener: &mut L,
 ) -> Result<Reply, AllocError>
 where
     R: Threads + Wait + Sync,
     H: Shelf,
     G: Gate + Sync,
+    S: Stopwatch + Sync,
     L: Listener,
     requires few { length names.now ≤ 64 }
     requires workers { HasWorkers wanted }
@@ -122,24 +131,26 @@ where
     ensures other_files { (name : List ℕ) → ¬ Contains names.now name → H.faults shelf.new name ≡ H.faults shelf.old name }
 {
     match take_texts(alloc, shelf, names)? {
-        Some(texts) => answer_taken(rt, alloc, names, &texts, wanted, gate, listener),
+        Some(texts) => answer_taken(rt, alloc, names, &texts, wanted, gate, stopwatch, listener),
         None => cannot_read(alloc),
     }
 }
 
 /// Answers the texts of these names.
-fn answer_taken<R, G, L>(
+fn answer_taken<R, G, S, L>(
     rt: &R,
     alloc: Global,
     names: &[FileName],
     texts: &[TakenText],
     wanted: ListWish,
     gate: &G,
+    stopwatch: &S,
     listener: &mut L,
 ) -> Result<Reply, AllocError>
 where
     R: Threads + Wait + Sync,
     G: Gate + Sync,
+    S: Stopwatch + Sync,
     L: Listener,
     requires one_each { length names.now ≡ length texts.now }
     requires few { length texts.now < 2 ^ 32 }
@@ -152,7 +163,7 @@ where
             rt, alloc, names, texts, settings, gate, listener,
         ),
         ListWish::Solve(kind, refuting) => solve_batch(
-            rt, alloc, names, texts, kind, refuting, gate, listener,
+            rt, alloc, names, texts, kind, refuting, gate, stopwatch, listener,
         ),
     }
 }

@@ -1,7 +1,6 @@
 //! The reply to `check`.
 ghost use Rattle.std.specs.Prelude.{◌≡◌, ◌≢◌, ℕ, List, Some, IfOk};
-ghost use Rattle.check_answer.specs.Answer.{CheckAnswers};
-ghost use Rattle.check_answer.specs.Reply.{CanBeTested, IsForCertificates};
+ghost use Rattle.check_answer.specs.Answer.{CheckAnswers, IsTakenBySolve};
 ghost use Rattle.letters_and_lassos.specs.declared.kinds.Kind.TheVariants.{Mealy};
 ghost use Rattle.program_replies.specs.Statuses.{status_number};
 ghost use Rattle.program_words.specs.Settings.{check};
@@ -14,7 +13,7 @@ ghost use Rattle.boundsyn_top.specs.Unread.{RepliesByFile, TellsUnread};
 
 use crate::files::{Taken, cannot_read, take_parts, take_text};
 use crate::output::{Output, whole_output};
-use check_answer::{TextForCheck, check_answer, text_for_check};
+use check_answer::{TextForCheck, check_answer, problems_for_check, text_for_check};
 use input_output::Shelf;
 use program_replies::Reply;
 use spec_problems::laws::problems_of_texts_are_determined;
@@ -60,45 +59,41 @@ where
     ensures files { H.files shelf.new ≡ H.files shelf.old }
     ensures other_files { (name : List ℕ) → (TakesCertificates text.now → name ≢ certificate.now) → H.faults shelf.new name ≡ H.faults shelf.old name }
 {
-    problems_of_texts_are_determined();
     match text_for_check(alloc, text)? {
-        TextForCheck::Taken(found) => checked(rt, alloc, shelf, text, found, certificate),
+        TextForCheck::Taken => checked(rt, alloc, shelf, text, certificate),
         TextForCheck::Refused(reply) => Ok(reply),
     }
 }
 
-/// Takes a document, and checks it against a text that is found so.
+/// Takes a document, and checks it against a text that `solve` takes.
 fn checked<R, H>(
     rt: &R,
     alloc: Global,
     shelf: &mut H,
     text: &[u8],
-    found: Problems,
     certificate: &str,
 ) -> Result<Reply, AllocError>
 where
     R: Threads + Wait + Sync,
     H: Shelf,
-    requires { CanBeTested found }
-    ensures reply { IsForCertificates text.now found → TakesCertificates text.now
+    ensures reply { IsTakenBySolve text.now → TakesCertificates text.now
         → IfOk result (λ r. RepliesByFile (step_of H.files H.faults shelf.old shelf.new) certificate.now
         (TakesCertificates text.now) (IsFirstFault text.now (Some Mealy)) (λ document. CheckAnswers text.now document r.bytes.items (status_number r.status)) r.bytes.items (status_number r.status)) }
     ensures files { H.files shelf.new ≡ H.files shelf.old }
     ensures other_files { (name : List ℕ) → name ≢ certificate.now → H.faults shelf.new name ≡ H.faults shelf.old name }
 {
     match take_parts(alloc, shelf, certificate)? {
-        Some(document) => check_answer(rt, alloc, text, found, &document),
-        None => unread_document(alloc, found),
+        Some(document) => check_answer(rt, alloc, text, &document),
+        None => unread_document(alloc, text),
     }
 }
 
-/// The reply to a text that is found so, where the document can't be read: the line of the text's fault, if it has one.
-fn unread_document(alloc: Global, found: Problems) -> Result<Reply, AllocError>
-    ensures { (text : List ℕ) → IsForCertificates text found
-        → IfOk result (λ r. TellsUnread (IsFirstFault text (Some Mealy)) r.bytes.items (status_number r.status)) }
+/// The reply to a text where the document can't be read: the line of the text's fault within the limits of the other commands, if it has one.
+fn unread_document(alloc: Global, text: &[u8]) -> Result<Reply, AllocError>
+    ensures { IfOk result (λ r. TellsUnread (IsFirstFault text.now (Some Mealy)) r.bytes.items (status_number r.status)) }
 {
     problems_of_texts_are_determined();
-    match found {
+    match problems_for_check(alloc, text)? {
         Problems::Of(_problems) => cannot_read(alloc),
         Problems::Refused(reply) => Ok(reply),
     }

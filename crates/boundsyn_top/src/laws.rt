@@ -20,10 +20,12 @@ use flat_text::laws::flat_texts_are_determined;
 use input_output::{Gate, PlainShelf, PlainSink};
 use outcome_news::Listener;
 use solve_check::laws::never_both;
+use solved_flat::laws::{expand_solve_answers_are_due, lasso_solve_answers_are_due};
 use spec_problems::laws::problems_of_texts_are_determined;
 use std::alloc::Global;
 use std::sync::Wait;
 use std::thread::Threads;
+use time_limits::Stopwatch;
 use tlsf_reader::laws::trees_are_determined;
 use verify_answer::laws::{environments_are_determined, verifications_are_determined};
 
@@ -41,6 +43,8 @@ pub fn refusals_are_determined()
     lists_are_determined();
     solve_faults_are_determined();
     environments_are_determined();
+    expand_solve_answers_are_due();
+    lasso_solve_answers_are_due();
 }
 
 /// A text is one thing as `solve` takes it, or has one first fault, and never both.
@@ -87,20 +91,22 @@ pub fn printed_is_accepted()
 }
 
 /// Over a shelf and a sink that never fail, words that ask for something get an answer, or memory was wanted.
-pub fn run_over_plain<R, G, L>(
+pub fn run_over_plain<R, G, S, L>(
     rt: &R,
     alloc: Global,
     words: &[String],
     shelf: &mut PlainShelf,
     out: &mut PlainSink,
     gate: &G,
+    stopwatch: &S,
     listener: &mut L,
 ) -> u8
 where
     R: Threads + Wait + Sync,
     G: Gate + Sync,
+    S: Stopwatch + Sync,
     L: Listener,
     ensures { (asked : Asked) → Asks (map string_bytes words.now) asked → Contains (5 ∷ statuses_of asked) result }
 {
-    run(rt, alloc, words, shelf, out, gate, listener)
+    run(rt, alloc, words, shelf, out, gate, stopwatch, listener)
 }

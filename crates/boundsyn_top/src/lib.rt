@@ -16,6 +16,7 @@ pub mod laws;
 mod lines;
 mod output;
 mod replies;
+mod solved_texts;
 mod solving;
 mod synthesis;
 mod top;

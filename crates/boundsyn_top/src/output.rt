@@ -8,6 +8,7 @@ use crate::lines::put_lines;
 use flat_lines::put_flat;
 use input_output::{Sink, SinkFault};
 use program_replies::{Reply, Status};
+use solved_flat::{TakenText, put_taken};
 use std::alloc::{AllocError, Global};
 use tlsf_expand::Spec;
 
@@ -18,6 +19,8 @@ pub enum Output {
     Whole(Reply),
     /// A flat text, whose formulas can be longer than memory once they are written out.
     Flat(Spec),
+    /// The same of a text as `solve` takes it, with the list of its formulas behind it where that is asked for.
+    Solved { text: TakenText, nodes: bool },
 }
 
 impl Output {
@@ -30,7 +33,7 @@ impl Output {
     {
         match self {
             Output::Whole(reply) => reply.status,
-            Output::Flat(_) => Status::Done,
+            Output::Flat(_) | Output::Solved { .. } => Status::Done,
         }
     }
 }
@@ -59,5 +62,6 @@ pub(crate) fn put_output<K: Sink>(
     match output {
         Output::Whole(reply) => put_lines(out, &reply.bytes),
         Output::Flat(spec) => put_flat(alloc, spec, out),
+        Output::Solved { text, nodes } => put_taken(alloc, text, *nodes, out),
     }
 }

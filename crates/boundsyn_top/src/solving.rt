@@ -18,9 +18,10 @@ use solve_answer::{GAME_BUDGET, Refuting, solve};
 use std::alloc::{AllocError, Global};
 use std::sync::Wait;
 use std::thread::Threads;
+use time_limits::Stopwatch;
 
 /// Finds a controller of a text, or a counter-strategy, refutes smaller ones, and prints what its test accepts.
-pub(crate) fn solve_spec<R, H, G, L>(
+pub(crate) fn solve_spec<R, H, G, S, L>(
     rt: &R,
     alloc: Global,
     shelf: &mut H,
@@ -28,12 +29,14 @@ pub(crate) fn solve_spec<R, H, G, L>(
     kind: Option<Kind>,
     refuting: Refuting,
     gate: &G,
+    stopwatch: &S,
     listener: &mut L,
 ) -> Result<Output, AllocError>
 where
     R: Threads + Wait + Sync,
     H: Shelf,
     G: Gate + Sync,
+    S: Stopwatch + Sync,
     L: Listener,
     ensures output { IfOk result (IsOutputOf (step_of H.files H.faults shelf.old shelf.new) (solve spec.now kind (refutations_by refuting))) }
     ensures files { H.files shelf.new ≡ H.files shelf.old }
@@ -41,29 +44,41 @@ where
 {
     match take_text(alloc, shelf, spec)? {
         Taken::Whole(text) => whole_output(solved(
-            rt, alloc, &text, kind, refuting, gate, listener,
+            rt, alloc, &text, kind, refuting, gate, stopwatch, listener,
         )),
         Taken::Refused(reply) => Ok(Output::Whole(reply)),
     }
 }
 
 /// Answers a text. The listener hears what is told beside the answer, too.
-fn solved<R, G, L>(
+fn solved<R, G, S, L>(
     rt: &R,
     alloc: Global,
     text: &[u8],
     kind: Option<Kind>,
     refuting: Refuting,
     gate: &G,
+    stopwatch: &S,
     listener: &mut L,
 ) -> Result<Reply, AllocError>
 where
     R: Threads + Wait + Sync,
     G: Gate + Sync,
+    S: Stopwatch + Sync,
     L: Listener,
     ensures { IfOk result (λ r. SolveAnswers text.now kind (limits_of refuting) r.bytes.items (status_number r.status)) }
 {
-    let solved = solve(rt, alloc, text, kind, GAME_BUDGET, refuting, gate, listener)?;
+    let solved = solve(
+        rt,
+        alloc,
+        text,
+        kind,
+        GAME_BUDGET,
+        refuting,
+        gate,
+        stopwatch,
+        listener,
+    )?;
     listener.hear(News::Answered(solved.told));
     Ok(solved.reply)
 }

@@ -20,21 +20,24 @@ use program_replies::Status;
 use std::alloc::Global;
 use std::sync::Wait;
 use std::thread::Threads;
+use time_limits::Stopwatch;
 
 /// Does what the words ask for, and gives the status to end with. The first word is the program's name.
 /// Each line is one call of `put`, its end included. What is told of the answers of `solve`, `synth`, `core` and `batch`, and of that of `solve`
-/// while it is made, the listener hears before the first line is written; nothing is promised of it.
+/// while it is made, the listener hears before the first line is written; nothing is promised of it. `solve` alone, and `batch` where it solves, ask the
+/// stopwatch, where the words limit their seconds.
 ///
 /// 0: done, accepted or verified. 10, 11, 20, 30: what `solve`, `synth` or `core` found. 1: the text is refused. 40: the list or the other file is
 /// refused at a line. 2: the words are refused. 3: a file that was due couldn't be read, and no fault of the text is told in its place. 4: not
 /// all could be written. 5: memory was wanted.
-pub fn run<R, H, K, G, L>(
+pub fn run<R, H, K, G, S, L>(
     rt: &R,
     alloc: Global,
     words: &[String],
     shelf: &mut H,
     out: &mut K,
     gate: &G,
+    stopwatch: &S,
     listener: &mut L,
 ) -> u8
 where
@@ -42,6 +45,7 @@ where
     H: Shelf,
     K: Sink,
     G: Gate + Sync,
+    S: Stopwatch + Sync,
     L: Listener,
     ensures statuses { Contains (2 ∷ 3 ∷ 4 ∷ 5 ∷ answering) result }
 
@@ -79,7 +83,7 @@ where
         → (name : List ℕ) → ¬ Contains (first_file stopped.asked) name → H.faults shelf.new name ≡ H.faults shelf.old name }
 {
     refusals_are_determined();
-    let Ok(output) = reply_to(rt, alloc, words, shelf, gate, listener) else {
+    let Ok(output) = reply_to(rt, alloc, words, shelf, gate, stopwatch, listener) else {
         return Status::NoMemory.number();
     };
     let status = output.status();

@@ -1,5 +1,6 @@
 -- From a reply to the answer.
-use Rattle.std.proofs.Common.{◌≡◌, ℕ, List, Option, Some, refl, ap, subst}
+use Rattle.std.specs.Prelude.{IfOk}
+use Rattle.std.proofs.Common.{◌≡◌, ℕ, List, Option, Some, Result, Ok, Err, refl, ap, subst}
 use Rattle.letters_and_lassos.specs.declared.kinds.Kind.{Kind}
 use Rattle.letters_and_lassos.specs.declared.kinds.Kind.TheVariants.{Mealy}
 use Rattle.spec_faults.specs.declared.code.SpecCode.{SpecCode}
@@ -21,7 +22,7 @@ use Rattle.program_replies.specs.declared.replies.Status.{Status}
 use Rattle.program_replies.specs.Refusals.{IsRefusal, RefusedBy}
 use Rattle.program_replies.specs.Statuses.{status_number}
 use Rattle.text_ground.specs.Ground.{given_by}
-use Rattle.text_ground.specs.Texts.{AreOfText}
+use Rattle.text_ground.specs.Texts.{AreOfText, IfProblems}
 use Rattle.text_ground.proofs.TextFacts.{facts_are}
 use Rattle.text_ground.specs.declared.texts.Problems.{Problems}
 use Rattle.text_ground.specs.declared.texts.Problems.TheVariants.{Of, Refused}
@@ -35,17 +36,20 @@ use Rattle.solve_check.specs.Asked.{IsAsked, IsAskedText, as_given, converted, i
 use Rattle.solve_check.specs.Checked.{IsReady}
 use Rattle.check_answer.specs.Answer.{CheckAnswers, GivenToCheck, IsTakenBySolve, SolvedAnswers}
 use Rattle.check_answer.specs.Answer as answer
-use Rattle.check_answer.specs.Reply.{IsAcceptance, IsForCertificates, IsForCheck, IsHeaderOf, IsLineRefusal, IsRefusedAlone}
+use Rattle.check_answer.specs.Reply.{AreForCertificates, IsAcceptance, IsForCheck, IsHeaderOf, IsLineRefusal}
 use Rattle.machine_model.specs.declared.counting.Counts.TheVariants.{Whole}
 use Rattle.check_answer.proofs.Accepted.{Context, is_accepted}
 
 -- a text's problems are what `check` tests against
-pub for_certificates : (text : List ℕ) (t : TextProblems) → AreOfText Whole text (Some Mealy) (Of t) → AreProblems t.problems → IsForCheck text t
-for_certificates text t of_text meet = record {
+pub for_certificates : {E : Type 0} (text : List ℕ) (found : Result Problems E) → IfOk found (AreOfText Whole text (Some Mealy))
+    → IfOk found (IfProblems (λ t. AreProblems t.problems)) → IfOk found (AreForCertificates text)
+for_certificates text (Ok (Of t)) of_text meet = record {
   text_with = of_text;
   facts = facts_are (spec_seen t.spec) t.problems meet;
   meet = meet;
 }
+for_certificates text (Ok (Refused reply)) first meet = first
+for_certificates text (Err e) of_text meet = tt
 
 -- a text that has a fault as `solve` takes it too is refused in any case
 pub refused_in_any_case : (text certificate bytes larger : List ℕ) (status other : ℕ) → RefusedBy (IsFirstFault text (Some Mealy)) bytes status
@@ -53,18 +57,17 @@ pub refused_in_any_case : (text certificate bytes larger : List ℕ) (status oth
 refused_in_any_case text certificate bytes larger status other r too =
     answer.refused r.code r.place r.status_is r.fault (answer.refused_by_solve too.code too.place too.fault) r.line
 
--- a fault that `solve` doesn't find answers certificates of the versions before 6
-pub refused_alone : (text certificate bytes : List ℕ) (status : ℕ) → IsRefusedAlone text bytes status → (IsSixth certificate → ⊥)
+-- a text's first fault answers certificates of the versions before 6
+pub refused_alone : (text certificate bytes : List ℕ) (status : ℕ) → RefusedBy (IsFirstFault text (Some Mealy)) bytes status → (IsSixth certificate → ⊥)
     → CheckAnswers text certificate bytes status
-refused_alone text certificate bytes status alone isnt =
-    answer.refused alone.fault.code alone.fault.place alone.fault.status_is alone.fault.fault (answer.of_earlier_version isnt) alone.fault.line
+refused_alone text certificate bytes status first isnt =
+    answer.refused first.code first.place first.status_is first.fault (answer.of_earlier_version isnt) first.line
 
--- a text that isn't refused in any case has no fault as `solve` takes it
-pub taken_by_solve : SmallTextsAreTaken → ProblemsOfTextsAreDetermined → (text : List ℕ) (found : Problems) → IsForCertificates text found → IsTakenBySolve text
-taken_by_solve small problems text (Of t) known = record {
+-- a text with problems has no fault as `solve` takes it
+pub taken_by_solve : SmallTextsAreTaken → ProblemsOfTextsAreDetermined → (text : List ℕ) (t : TextProblems) → IsForCheck text t → IsTakenBySolve text
+taken_by_solve small problems text t known = record {
   none = small text (Some Mealy) (λ code place. problems.no_fault text (Some Mealy) Whole (spec_seen t.spec) t.problems code place known.text_with.are);
 }
-taken_by_solve small problems text (Refused r) alone = alone.taken
 
 -- a text that `solve` takes has no fault with the kind that a document says
 pub asked_fault : SolveTextsAreDetermined → (text certificate bytes : List ℕ) (header : Header) (found : SpecFault) (ended : Status) → IsTakenBySolve text

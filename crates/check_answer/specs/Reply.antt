@@ -5,6 +5,7 @@ use Rattle.letters_and_lassos.specs.declared.kinds.Kind.TheVariants.{Mealy}
 use Rattle.tlsf_expand.specs.FlatText.{spec_seen}
 use Rattle.spec_problems.specs.declared.texts.TextProblems.{TextProblems}
 use Rattle.spec_problems.specs.OfFormula.{AreProblems}
+use Rattle.spec_problems.specs.OfText.{IsFirstFault}
 use Rattle.document_text.specs.declared.documents.DocumentFault.{DocumentFault}
 use Rattle.document_text.specs.declared.documents.DocumentFault.TheVariants as fault
 use Rattle.document_text.specs.declared.documents.Verdict.{Verdict}
@@ -14,7 +15,6 @@ use Rattle.text_ground.specs.declared.texts.Problems.{Problems}
 use Rattle.text_ground.specs.declared.texts.Problems.TheVariants.{Of, Refused}
 use Rattle.text_ground.specs.Ground.{given_by}
 use Rattle.text_ground.specs.Texts.{IsTextWith}
-use Rattle.spec_problems.specs.OfText.{IsFirstFault}
 use Rattle.solve_ground.specs.SolveText.{IsSolveFault}
 use Rattle.solved_text.specs.declared.header.Header.{Header}
 use Rattle.solved_text.specs.Reading.{Reads, SolvedLines}
@@ -39,26 +39,15 @@ pub record IsForCheck (text : List ℕ) (t : TextProblems) : Type 0 where
   pub facts : AreFacts (facts_for_check t)
   pub meet : AreProblems t.problems
 
--- the reply to a fault that the text hasn't as `solve` takes it
-pub record IsRefusedAlone (text bytes : List ℕ) (status : ℕ) : Type 0 where
-  pub fault : RefusedBy (IsFirstFault text (Some Mealy)) bytes status
-  pub taken : IsTakenBySolve text
+-- a text's problems, or the reply to its first fault
+abbrev pub AreForCertificates : List ℕ → Problems → Type 0
+AreForCertificates text (Of t) = IsForCheck text t
+AreForCertificates text (Refused r) = RefusedBy (IsFirstFault text (Some Mealy)) r.bytes.items (status_number r.status)
 
--- What answers certificates that aren't of version 6, where the text isn't refused in any case: its problems, or the reply to a fault
--- that it hasn't as `solve` takes it.
-abbrev pub IsForCertificates : List ℕ → Problems → Type 0
-IsForCertificates text (Of t) = IsForCheck text t
-IsForCertificates text (Refused r) = IsRefusedAlone text r.bytes.items (status_number r.status)
-
--- the same, or a reply that answers the text with whatever certificate
+-- `solve` takes the text, or a reply answers it with whatever certificate
 abbrev pub AreForCheck : List ℕ → TextForCheck → Type 0
-AreForCheck text (ready.Taken found) = IsForCertificates text found
+AreForCheck text ready.Taken = IsTakenBySolve text
 AreForCheck text (ready.Refused r) = (certificate : List ℕ) → CheckAnswers text certificate r.bytes.items (status_number r.status)
-
--- the problems can be tested against, where there are some
-abbrev pub CanBeTested : Problems → Type 0
-CanBeTested (Of t) = AreFacts (facts_for_check t)
-CanBeTested (Refused r) = ⊤
 
 -- no fault, or the reply to the first one, of the text as `solve` takes it
 abbrev pub IsFaultForSolve : List ℕ → Option AReply → Type 0

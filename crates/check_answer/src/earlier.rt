@@ -4,8 +4,9 @@ ghost use Rattle.document_check.specs.Shown.{AreFacts};
 ghost use Rattle.program_replies.specs.Statuses.{status_number};
 ghost use Rattle.solved_text.specs.Reading.{IsSixth};
 ghost use Rattle.check_answer.specs.Answer.{CheckAnswers};
-ghost use Rattle.check_answer.specs.Reply.{CanBeTested, IsForCertificates, IsForCheck, IsLineRefusal, facts_for_check};
+ghost use Rattle.check_answer.specs.Reply.{IsForCheck, IsLineRefusal, facts_for_check};
 
+use crate::answering::problems_for_check;
 use crate::lines::acceptance;
 use annotation_encode::laws::sizes_rise;
 use document_check::check_document;
@@ -18,19 +19,17 @@ use std::thread::Threads;
 use text_ground::laws::sides_mean;
 use text_ground::{Problems, automata_are_kept, facts_of};
 
-/// The answer to a text that is found so, and to a certificate that isn't of version 6.
+/// The answer to a text, and to a certificate that isn't of version 6.
 pub(crate) fn earlier_answer<R: Threads + Sync>(
     rt: &R,
     alloc: Global,
-    found: Problems,
+    text: &[u8],
     certificate: &[u8],
 ) -> Result<Reply, AllocError>
-    requires { CanBeTested found }
-    ensures { (text : List ℕ) → IsForCertificates text found → (IsSixth certificate.now → ⊥)
-        → IfOk result (λ r. CheckAnswers text certificate.now r.bytes.items (status_number r.status)) }
+    ensures { (IsSixth certificate.now → ⊥) → IfOk result (λ r. CheckAnswers text.now certificate.now r.bytes.items (status_number r.status)) }
 {
-    match found {
-        Problems::Of(text) => document_answer(rt, alloc, &text, certificate),
+    match problems_for_check(alloc, text)? {
+        Problems::Of(found) => document_answer(rt, alloc, &found, certificate),
         Problems::Refused(reply) => Ok(reply),
     }
 }

@@ -13,4 +13,4 @@ pub mod laws;
 mod lines;
 mod solved;
 
-pub use answering::{TextForCheck, check_answer, text_for_check};
+pub use answering::{TextForCheck, check_answer, problems_for_check, text_for_check};

@@ -1,36 +1,31 @@
 //! The answer to a certificate of version 6.
 ghost use Rattle.std.specs.Prelude.{◌≡◌, ℕ, List, Option, IfOk};
 ghost use Rattle.letters_and_lassos.specs.declared.kinds.Kind.{Kind as AKind};
-ghost use Rattle.text_ground.specs.declared.texts.Problems.{Problems as FoundProblems};
 ghost use Rattle.program_replies.specs.Statuses.{status_number};
 ghost use Rattle.solve_ground.specs.SolveText.{IsSolveText};
 ghost use Rattle.solved_text.specs.Reading.{IsSixth};
 ghost use Rattle.solve_check.specs.Checked.{IsReady};
 ghost use Rattle.solve_check.specs.Line.{accepted_line as line_of};
-ghost use Rattle.check_answer.specs.Answer.{CheckAnswers, SolvedAnswers};
-ghost use Rattle.check_answer.specs.Reply.{IsForCertificates, IsHeaderOf};
+ghost use Rattle.check_answer.specs.Answer.{CheckAnswers, IsTakenBySolve, SolvedAnswers};
+ghost use Rattle.check_answer.specs.Reply.{IsHeaderOf};
 
-use limit_laws::laws::small_texts_are_taken;
 use program_replies::{Reply, Status, refusal, refused_at_line};
 use solve_check::{Acceptance, Checked, accepted_line, asked_text, check_solved};
 use solve_ground::SolveText;
 use solve_ground::laws::solve_texts_are_determined;
 use solved_text::{Header, read_solved};
-use spec_problems::laws::problems_of_texts_are_determined;
 use std::alloc::{AllocError, Global};
 
-/// The answer to a text, unless it is refused in any case, and to a certificate of version 6, which is tested against the text as it asks
+/// The answer to a text that `solve` takes, and to a certificate of version 6, which is tested against the text as it asks
 /// for it.
 pub(crate) fn solved_answer(
     alloc: Global,
     text: &[u8],
     certificate: &[u8],
 ) -> Result<Reply, AllocError>
-    ensures { (found : FoundProblems) → IsForCertificates text.now found → IsSixth certificate.now
+    ensures { IsTakenBySolve text.now → IsSixth certificate.now
         → IfOk result (λ r. CheckAnswers text.now certificate.now r.bytes.items (status_number r.status)) }
 {
-    small_texts_are_taken();
-    problems_of_texts_are_determined();
     solve_texts_are_determined();
     let header = header_of(alloc, certificate)?;
     match asked_text(alloc, text, header) {

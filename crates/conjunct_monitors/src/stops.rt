@@ -25,6 +25,15 @@ pub struct Usage {
     pub bytes: usize,
 }
 
+impl Usage {
+    const NOTHING: Usage = Usage {
+        steps: 0,
+        positions: 0,
+        edges: 0,
+        bytes: 0,
+    };
+}
+
 /// What a limit is of.
 #[derive(Clone, Copy, Debug, PartialEq, Eq)]
 pub enum Limit {
@@ -38,6 +47,10 @@ pub enum Limit {
     Positions,
     Edges,
     Bytes,
+    /// Conjuncts, their forms, or those that ask for something good.
+    Conjuncts,
+    /// States of a strategy.
+    StrategyStates,
 }
 
 /// Why a game isn't decided.
@@ -48,6 +61,8 @@ pub enum Stop {
     /// A limit is passed, when so much was used.
     Passed(Limit, Usage),
     NoMemory,
+    /// The time is over.
+    Time,
 }
 
 impl From<AllocError> for Stop {
@@ -63,10 +78,12 @@ impl<T: Drop> From<AllocFailed<T>> for Stop {
 }
 
 impl From<Refusal> for Stop {
+    /// A formula is taken apart before anything is used.
     fn from(refusal: Refusal) -> Stop {
         match refusal {
             Refusal::NoMemory => Stop::NoMemory,
-            Refusal::NoShape | Refusal::TooManyForms => Stop::NoShape,
+            Refusal::NoShape => Stop::NoShape,
+            Refusal::TooManyForms => Stop::Passed(Limit::Conjuncts, Usage::NOTHING),
         }
     }
 }
@@ -82,12 +99,7 @@ impl Meter {
     pub fn new(budget: Budget) -> Meter {
         Meter {
             budget,
-            used: Usage {
-                steps: 0,
-                positions: 0,
-                edges: 0,
-                bytes: 0,
-            },
+            used: Usage::NOTHING,
         }
     }
 

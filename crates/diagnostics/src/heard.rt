@@ -1,4 +1,5 @@
 use crate::line_rules::cut_word;
+use crate::signal_names::SignalNames;
 use crate::text_faults::TextFault;
 use outcome_news::Told;
 use spec_faults::SpecCode;
@@ -70,6 +71,8 @@ impl KeptTold {
 pub struct Heard {
     bytes: u64,
     answer: Answer,
+    /// The signals of the one circuit that was written.
+    signals: SignalNames,
     /// The answers of `batch`, in the order of its texts.
     texts: Vec<Answer>,
     /// How many lines of the last of them are still to come.
@@ -84,6 +87,7 @@ impl Heard {
         Heard {
             bytes: 0,
             answer: Answer::NOTHING,
+            signals: SignalNames::new(alloc),
             texts: Vec::new(alloc),
             rest: 0,
             is_batch,
@@ -127,6 +131,10 @@ impl Heard {
         self.answer
     }
 
+    pub(crate) fn signals(&self) -> &SignalNames {
+        &self.signals
+    }
+
     pub(crate) fn texts(&self) -> &[Answer] {
         &self.texts
     }
@@ -134,7 +142,7 @@ impl Heard {
     fn hear_line(&mut self, line: &[u8]) -> Result<(), AllocError> {
         if !self.is_batch {
             self.answer.hear(line);
-            return Ok(());
+            return self.signals.hear(line);
         }
         if self.rest > 0 {
             self.rest -= 1;

@@ -1,6 +1,6 @@
 use crate::VERSION;
 use program_words::COMMANDS;
-use std::alloc::AllocError;
+use std::alloc::{AllocError, Global};
 use std::fmt::Write;
 
 const PAGE: &str = "  solve SPEC           a tested controller of any size, or who defeats it
@@ -20,22 +20,25 @@ options behind these words, and what holds without them:
   --entries B          most entries of a log, 0 to 250000 or none (50000; in
                        solve 2000 without --max)
   --workers W          threads, 1 to 8 (4); in batch 1 to 4 (4)
+  --seconds S          of solve: most seconds for a text, 1 to 86400 (no limit)
   --kind mealy|moore   the kind, in place of the text's own
   --counts whole|local how base clauses bound their counts (whole)
-  --unrealizable       before the names of `verify`: the circuit plays the
-                       environment (the system)
-words before the command, for standard error:
-  --progress           a line each second   --verbose  what was found, too
-  --quiet              no messages
+  --unrealizable       of verify: the circuit plays the environment (the system)
+  --solve              of expand and lasso: the text as `solve` takes it
+  --nodes              of expand --solve: the list of its formulas, too
+words before the command:
+  -o FILE              write FILE, not standard output (also --output FILE)
+  --progress           a line each second on standard error
+  --verbose            what was found, too  --quiet  no messages
+`-` is standard input in place of a file's name, once in a command
 statuses:  0 done  10 realizable  11 a machine, but a log is full
   20 unrealizable  30 unknown  40 a line refused  1 the text refused
   2 a usage error  3 can't read  4 can't write  5 out of memory
 ";
 
-/// Appends the help page.
-pub(crate) fn push_help(out: &mut String) -> Result<(), AllocError> {
-    writeln!(out, "boundsyn {VERSION}: bounded synthesis of TLSF texts")?;
-    out.push_str(PAGE)
+/// The help page.
+pub fn help_page(alloc: Global) -> Result<String, AllocError> {
+    format!(in alloc; "boundsyn {VERSION}: bounded synthesis of TLSF texts\n{PAGE}")
 }
 
 /// Appends the forms of all commands.

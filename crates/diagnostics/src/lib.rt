@@ -18,22 +18,27 @@ mod line_faults;
 mod line_rules;
 mod messages;
 mod nearest;
+mod nexts;
 mod notes;
 mod own_words;
 mod places;
 mod progress;
+mod remarks;
 mod sentences;
+mod signal_names;
 mod slips;
 mod solved;
 mod solved_rules;
 mod text_faults;
 mod unknown;
+mod unsolved;
 mod wrong_words;
 
 pub use heard::{Heard, KeptTold};
+pub use help::help_page;
 pub use kept::{KeptFile, KeptFiles};
 pub use messages::{Seen, message};
-pub use own_words::{OwnWords, read_own_words};
+pub use own_words::{OWN_WORDS, OwnWords, read_own_words};
 pub use progress::{Phase, SizeTurns, batch_line, phase_line, progress_line};
 pub use solved::found_line;
 

@@ -2,9 +2,10 @@ use crate::answers::push_answer;
 use crate::heard::{Answer, Heard};
 use crate::kept::{KeptFile, KeptFiles};
 use crate::line_faults::{LineFault, LineOf, push_line_fault};
-use crate::solved::{Solved, push_solved, push_unsolved};
+use crate::solved::{Alone, Solved, push_solved};
 use crate::text_faults::{RefusedBy, Source, push_text_fault};
 use crate::unknown::push_unknown;
+use crate::unsolved::push_unsolved;
 use crate::wrong_words::push_wrong_words;
 use document_text::Verdict;
 use outcome_news::Told;
@@ -47,6 +48,8 @@ pub struct Seen<'a> {
     pub write_error: Option<&'a str>,
     /// Whether a worker of a search passed its gate.
     pub is_searched: bool,
+    /// How long it took.
+    pub milliseconds: u64,
 }
 
 /// What is said of the run on standard error: why its status is no success, and, where that is wanted, what was found. Nothing is said
@@ -104,9 +107,6 @@ fn push_unread(seen: Seen<'_>, out: &mut String) -> Result<(), AllocError> {
     let name = seen.files.failed().unwrap_or("a file");
     let reason = seen.read_error.unwrap_or("the system gave no reason");
     writeln!(out, "{name}: error: can't be read: {reason}")?;
-    if name == "-" {
-        out.push_str("  note: standard input is read by its name: `/dev/stdin`\n")?;
-    }
     if name.ends_with('?') && command(seen) == "batch" {
         out.push_str(
             "  note: a line of the list may end with a carriage return: it ends with a line feed alone\n",
@@ -144,7 +144,7 @@ fn push_memory(seen: Seen<'_>, out: &mut String) -> Result<(), AllocError> {
 fn push_refused(alloc: Global, seen: Seen<'_>, out: &mut String) -> Result<(), AllocError> {
     match (first_file(seen), seen.heard.answer().fault) {
         (Some(file), Some(fault)) => {
-            push_text_fault(alloc, file, fault, RefusedBy::of(command(seen)), out)
+            push_text_fault(alloc, file, fault, RefusedBy::of(seen.words), out)
         },
         _ => Ok(()),
     }
@@ -183,8 +183,9 @@ fn push_open(
     };
     let command = words_of(alloc, seen)?;
     match told {
-        Told::Unsolved(kind, why) => {
-            push_unsolved(solved(alloc, seen, file.name, &command), kind, why, out)?
+        Told::Unsolved(kind, why, conjuncts) => {
+            let solved = solved(alloc, seen, file.name, &command, is_verbose);
+            push_unsolved(solved, kind, why, conjuncts, out)?
         },
         Told::Searched(searched) => push_unknown(alloc, file.name, &searched, &command, out)?,
         Told::Refused | Told::Found(..) | Told::Core(_) => {},
@@ -198,13 +199,23 @@ fn words_of<'a>(alloc: Global, seen: Seen<'a>) -> Result<Vec<&'a str>, AllocErro
 }
 
 /// What is said of an answer of `solve`.
-fn solved<'a>(alloc: Global, seen: Seen<'a>, name: &'a str, command: &'a [&'a str]) -> Solved<'a> {
+fn solved<'a>(
+    alloc: Global,
+    seen: Seen<'a>,
+    name: &'a str,
+    command: &'a [&'a str],
+    is_verbose: bool,
+) -> Solved<'a> {
     Solved {
         name,
         solving: read_wishes(alloc, seen.words).solving,
         command,
-        has_reasons: true,
-        is_announced: seen.heard.answer().is_announced,
+        alone: Some(Alone {
+            is_announced: seen.heard.answer().is_announced,
+            is_verbose,
+            milliseconds: seen.milliseconds,
+            signals: seen.heard.signals(),
+        }),
     }
 }
 
@@ -220,9 +231,9 @@ fn push_found(
     };
     let command = words_of(alloc, seen)?;
     match seen.heard.answer().told {
-        Some(Told::Found(side, states, refuted)) => {
-            let solved = solved(alloc, seen, file.name, &command);
-            push_solved(solved, side, states, refuted, out)?
+        Some(Told::Found(solution)) => {
+            let solved = solved(alloc, seen, file.name, &command, is_verbose);
+            push_solved(solved, solution, out)?
         },
         told if is_verbose => push_answer(alloc, file, told, out)?,
         _ => {},
@@ -284,14 +295,13 @@ fn push_solved_text(
         name: file.name,
         solving: Some(solving),
         command: &["boundsyn", "solve", file.name],
-        has_reasons: false,
-        is_announced: false,
+        alone: None,
     };
     match answer.told {
-        Some(Told::Unsolved(kind, why)) => push_unsolved(solved, kind, why, out)?,
-        Some(Told::Found(side, states, refuted)) if is_verbose => {
-            push_solved(solved, side, states, refuted, out)?
+        Some(Told::Unsolved(kind, why, conjuncts)) => {
+            push_unsolved(solved, kind, why, conjuncts, out)?
         },
+        Some(Told::Found(solution)) if is_verbose => push_solved(solved, solution, out)?,
         _ => {},
     }
     push_lint(alloc, file, is_verbose, out)

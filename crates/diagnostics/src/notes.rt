@@ -60,12 +60,12 @@ pub(crate) fn push_note(
     by: RefusedBy,
     out: &mut String,
 ) -> Result<(), AllocError> {
-    if let Some(note) = note_for(alloc, around, code)? {
+    if let Some(note) = note_for(alloc, around, code, by)? {
         note.push(alloc, out)?;
     }
     match by {
         RefusedBy::Search => push_larger(code, out),
-        RefusedBy::Solve | RefusedBy::Other => Ok(()),
+        RefusedBy::Solve | RefusedBy::Core | RefusedBy::Other => Ok(()),
     }
 }
 
@@ -81,11 +81,6 @@ fn push_larger(code: SpecCode, out: &mut String) -> Result<(), AllocError> {
         SpecCode::AutomatonTooLarge => out.push_str(
             "  note: `solve` makes smaller automata of a text, and takes larger ones: up to 20,000 states and 2,000,000 edges\n",
         ),
-        SpecCode::TooManyGuarantees => {
-            out.push_str(
-                "  note: `solve` takes any number of them, and finds whether they can be met\n",
-            )
-        },
         _ => Ok(()),
     }
 }
@@ -94,6 +89,7 @@ fn note_for<'a>(
     alloc: Global,
     around: &Around<'a>,
     code: SpecCode,
+    by: RefusedBy,
 ) -> Result<Option<Note<'a>>, AllocError> {
     let names = declarations(alloc, around)?;
     match code {
@@ -106,6 +102,9 @@ fn note_for<'a>(
             "words are infinite here: SEMANTICS is `Mealy` or `Moore`",
         ))),
         SpecCode::Unsupported => Ok(sign_note(around).or(word_note(around, &names))),
+        SpecCode::TargetDiffers if by == RefusedBy::Core => Ok(Some(Note::plain(
+            "`core` takes one kind, from `--kind mealy` or `--kind moore`",
+        ))),
         SpecCode::TargetDiffers => Ok(Some(Note::plain(
             "`solve` takes both as TLSF means them; `synth` and `core` take one kind from `--kind mealy` or `--kind moore`",
         ))),

@@ -1,3 +1,6 @@
+/// The words of the program itself, but that which names the file of the output.
+pub const OWN_WORDS: [&str; 3] = ["--progress", "--quiet", "--verbose"];
+
 /// The words of the program itself, which stand before the command and aren't seen by `run`.
 #[derive(Clone, Copy)]
 pub struct OwnWords {

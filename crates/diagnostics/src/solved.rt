@@ -1,9 +1,12 @@
-//! What `solve` found and which smaller sizes it refuted, or why it found nothing.
+//! What `solve` found, what is so of it, and which smaller sizes it refuted.
 
-use crate::unknown::{Count, Next, push_easier, push_next};
-use letters_and_lassos::{Kind, Side};
-use outcome_news::{End, Limit, NotWon, Refuted, RefutingEnd, Unsolved, Unwon, Withheld};
-use program_words::{MOST_ENTRIES, MOST_REFUTED, Solving, USUAL_ENTRIES};
+use crate::nexts::{Next, is_plain, push_next};
+use crate::remarks::push_remarks;
+use crate::signal_names::SignalNames;
+use crate::unknown::Count;
+use letters_and_lassos::Side;
+use outcome_news::{Engine, Refuted, RefutingEnd, Solution};
+use program_words::{MOST_ALONE, MOST_ENTRIES, MOST_REFUTED, MOST_SECONDS, Solving, USUAL_ENTRIES};
 use shown_text::push_shown;
 use std::alloc::{AllocError, Global};
 use std::fmt::Write;
@@ -16,16 +19,31 @@ pub(crate) struct Solved<'a> {
     pub(crate) solving: Option<Solving>,
     /// The words of a command that made it.
     pub(crate) command: &'a [&'a str],
-    /// Whether it is said why nothing was found, and why no further size is refuted: not of the texts of a list.
-    pub(crate) has_reasons: bool,
+    /// What is told of an answer to one text alone, and not of the texts of a list.
+    pub(crate) alone: Option<Alone<'a>>,
+}
+
+/// What is known of an answer to one text alone.
+#[derive(Clone, Copy)]
+pub(crate) struct Alone<'a> {
     /// Whether it was said at once that something is found.
     pub(crate) is_announced: bool,
+    /// Whether it is said what found it.
+    pub(crate) is_verbose: bool,
+    /// How long it took.
+    pub(crate) milliseconds: u64,
+    /// The signals of what is printed.
+    pub(crate) signals: &'a SignalNames,
 }
 
 impl Solved<'_> {
     /// Whether it was asked that no size is refuted.
-    fn is_brief(self) -> bool {
+    pub(crate) fn is_brief(self) -> bool {
         self.solving.is_some_and(|solving| solving.max == Some(0))
+    }
+
+    fn is_announced(self) -> bool {
+        self.alone.is_some_and(|alone| alone.is_announced)
     }
 }
 
@@ -40,65 +58,95 @@ pub fn found_line(
     let mut out = String::new(alloc);
     if states > 1 {
         push_shown(alloc, name.as_bytes(), &mut out)?;
-        push_found(side, u64::from(states), &mut out)?;
-        out.push_str("; now showing that fewer don't do (--max 0 leaves this out)\n")?;
+        out.push_str(": ")?;
+        push_strategy(side, states, &mut out)?;
+        out.push_str(
+            " is found and tested; now showing that fewer don't do (--max 0 leaves this out)\n",
+        )?;
     }
     Ok(out)
 }
 
-/// Appends that a strategy of a side is found: `: a controller of 2 states is found and tested`.
-fn push_found(side: Side, states: u64, out: &mut String) -> Result<(), AllocError> {
-    let what = match side {
-        Side::System => "controller",
-        Side::Environment => "counter-strategy",
-    };
-    write!(out, ": a {what} of ")?;
-    Count(states).push_to("state", out)?;
-    out.push_str(" is found and tested")
+/// Appends a strategy of a side: `a controller of 2 states`.
+fn push_strategy(side: Side, states: u32, out: &mut String) -> Result<(), AllocError> {
+    out.push_str(match side {
+        Side::System => "a controller of ",
+        Side::Environment => "a counter-strategy of ",
+    })?;
+    Count(u64::from(states)).push_to("state", out)
 }
 
-/// Appends that a strategy of a side is found, unless that was said before, and what is known of smaller ones.
+/// Appends that a strategy is found, unless that was said before, what is so of it, what it has, and what is known of smaller ones.
 pub(crate) fn push_solved(
     solved: Solved<'_>,
-    side: Side,
-    states: u32,
-    refuted: Refuted,
+    solution: Solution,
     out: &mut String,
 ) -> Result<(), AllocError> {
     let name = solved.name;
-    let states = u64::from(states);
-    let sizes = u64::from(refuted.sizes);
-    if !solved.is_announced {
-        out.push_str(name)?;
-        push_found(side, states, out)?;
-        out.push('\n')?;
+    if !solved.is_announced() {
+        write!(out, "{name}: ")?;
+        push_strategy(solution.side, solution.states, out)?;
+        out.push_str(" is found and tested\n")?;
     }
-    write!(out, "{name}: ")?;
-    Count(states).push_to("state", out)?;
-    push_smaller(states, sizes, out)?;
-    if solved.has_reasons && is_open(states, sizes) {
-        push_open_end(solved, refuted, out)?;
+    if let Some(alone) = solved.alone {
+        push_remarks(solution.remarks, alone.signals, out)?;
     }
-    Ok(())
+    push_size(solved, solution, out)?;
+    match solved.alone {
+        Some(alone) => push_around(solved, alone, solution, out),
+        None => Ok(()),
+    }
 }
 
-/// Whether smaller sizes than this one are left, where those up to the other are refuted.
-fn is_open(states: u64, refuted: u64) -> bool {
-    refuted.saturating_add(1) < states
+/// Appends how large a strategy is, how long it took, and what is known of smaller ones.
+fn push_size(solved: Solved<'_>, solution: Solution, out: &mut String) -> Result<(), AllocError> {
+    let name = solved.name;
+    write!(out, "{name}: ")?;
+    push_strategy(solution.side, solution.states, out)?;
+    out.push_str(", ")?;
+    Count(u64::from(solution.gates)).push_to("gate", out)?;
+    let latches = solution.latches;
+    let noun = if latches == 1 { "latch" } else { "latches" };
+    write!(out, ", {latches} {noun}")?;
+    if let Some(alone) = solved.alone {
+        push_seconds(alone.milliseconds, out)?;
+    }
+    push_smaller(solution, out)
+}
+
+/// Appends seconds with two places: `, 0.02 s`.
+fn push_seconds(milliseconds: u64, out: &mut String) -> Result<(), AllocError> {
+    let seconds = milliseconds / 1000;
+    let hundredths = milliseconds % 1000 / 10;
+    write!(out, ", {seconds}.{hundredths:02} s")
+}
+
+/// Whether smaller sizes than a strategy's are left, which aren't refuted.
+fn is_open(solution: Solution) -> bool {
+    solution.refuted.sizes.saturating_add(1) < solution.states
 }
 
 /// Appends which smaller sizes are refuted, and which are open.
-fn push_smaller(states: u64, refuted: u64, out: &mut String) -> Result<(), AllocError> {
-    let last = states.saturating_sub(1);
-    let first = refuted.saturating_add(1);
-    if !is_open(states, refuted) {
-        return match last {
-            0 => out.push_str(": smallest\n"),
-            1 => out.push_str(", and none of 1 does: smallest\n"),
-            _ => writeln!(out, ", and none of {last} or fewer does: smallest"),
-        };
+fn push_smaller(solution: Solution, out: &mut String) -> Result<(), AllocError> {
+    if is_open(solution) {
+        return push_open(solution, out);
     }
-    if refuted == 0 {
+    let does = match solution.side {
+        Side::System => "",
+        Side::Environment => " defeats",
+    };
+    match solution.states.saturating_sub(1) {
+        0 => out.push_str(": smallest\n"),
+        1 => writeln!(out, "; none of 1{does}: smallest"),
+        last => writeln!(out, "; none of {last} or fewer{does}: smallest"),
+    }
+}
+
+/// Appends which smaller sizes are open.
+fn push_open(solution: Solution, out: &mut String) -> Result<(), AllocError> {
+    let last = solution.states.saturating_sub(1);
+    let first = solution.refuted.sizes.saturating_add(1);
+    if first == 1 {
         return out.push_str("; whether fewer do is open\n");
     }
     match last.saturating_sub(first) {
@@ -108,19 +156,58 @@ fn push_smaller(states: u64, refuted: u64, out: &mut String) -> Result<(), Alloc
     }
 }
 
-/// Appends why no further size is refuted, and the words that try it; nothing where that was asked for.
-fn push_open_end(solved: Solved<'_>, refuted: Refuted, out: &mut String) -> Result<(), AllocError> {
-    if solved.is_brief() {
-        return Ok(());
+/// Appends what is said behind that: what found a strategy, where that is wanted, why smaller sizes are open, and how to see why the
+/// environment wins.
+fn push_around(
+    solved: Solved<'_>,
+    alone: Alone<'_>,
+    solution: Solution,
+    out: &mut String,
+) -> Result<(), AllocError> {
+    if alone.is_verbose {
+        out.push_str(match solution.engine {
+            Engine::WholeGames => "  found by the games of the whole text's automata\n",
+            Engine::ConjunctGame => "  found by the game of the text's conjuncts\n",
+            Engine::SizeSearch => "  found by the search of small machines\n",
+        })?;
     }
-    out.push_str("  ")?;
-    push_end(refuted, solved.solving, out)?;
-    out.push('\n')?;
-    push_next(solved.command, further(&[refuted], solved.solving), out)
+    if is_open(solution) && !solved.is_brief() {
+        let refuted = solution.refuted;
+        out.push_str("  ")?;
+        push_end(refuted, solved.solving, out)?;
+        out.push('\n')?;
+        push_next(
+            "try",
+            solved.command,
+            further(&[refuted], solved.solving),
+            out,
+        )?;
+    }
+    match solution.side {
+        Side::System => Ok(()),
+        Side::Environment => push_reasons(solved.name, alone.signals, out),
+    }
+}
+
+/// Appends how to see why the environment wins. A core is had of the texts alone that `synth` takes.
+fn push_reasons(name: &str, signals: &SignalNames, out: &mut String) -> Result<(), AllocError> {
+    let name = if is_plain(name) { name } else { "SPEC" };
+    let most = MOST_ALONE as usize;
+    let has_core = !signals.is_converted()
+        && signals.inputs().len() <= most
+        && signals.outputs().len() <= most;
+    out.push_str("  to see why: ")?;
+    if has_core {
+        write!(out, "`boundsyn core {name}`, ")?;
+    }
+    writeln!(
+        out,
+        "the page of `boundsyn-show DOC --html`, or `annotate {name} CANDIDATE` of a circuit of yours"
+    )
 }
 
 /// Appends why no size behind those that are refuted is.
-fn push_end(
+pub(crate) fn push_end(
     refuted: Refuted,
     solving: Option<Solving>,
     out: &mut String,
@@ -148,6 +235,10 @@ fn push_end(
             "there is a machine of size {size}, and no circuit of it passes the test"
         ),
         RefutingEnd::NoMemory => write!(out, "memory ran out at size {size}"),
+        RefutingEnd::Time => {
+            write!(out, "the time was over at size {size}")?;
+            push_time(solving, out)
+        },
         RefutingEnd::BadLine(line) => write!(
             out,
             "the logs fail at line {line} of the document: this is a fault of boundsyn"
@@ -162,33 +253,59 @@ fn is_wanted(solving: Option<Solving>) -> bool {
 
 /// Appends the limit of entries, where there is one.
 fn push_limit(solving: Option<Solving>, out: &mut String) -> Result<(), AllocError> {
-    match solving {
-        Some(
-            Solving {
-                entries: Some(entries),
-                ..
-            },
-        ) => write!(out, " (`--entries {entries}`)"),
-        _ => Ok(()),
+    match solving.and_then(|solving| solving.entries) {
+        Some(entries) => write!(out, " (`--entries {entries}`)"),
+        None => Ok(()),
     }
 }
 
-/// The options that try further where these sizes were refuted.
-fn further(sides: &[Refuted], solving: Option<Solving>) -> Next {
-    let Some(Solving { max, entries }) = solving else {
+/// Appends how many seconds there were.
+pub(crate) fn push_time(solving: Option<Solving>, out: &mut String) -> Result<(), AllocError> {
+    match solving.and_then(|solving| solving.seconds) {
+        Some(seconds) => write!(out, " (`--seconds {seconds}`)"),
+        None => Ok(()),
+    }
+}
+
+/// The options that go further where these sizes were refuted.
+pub(crate) fn further(sides: &[Refuted], solving: Option<Solving>) -> Next {
+    let Some(solving) = solving else {
         return Next::NOTHING;
     };
-    let is_full = sides.iter().any(|side| side.end == RefutingEnd::Full);
-    let is_large = sides.iter().any(|side| side.end == RefutingEnd::TooLarge);
-    let is_done = sides.iter().any(|side| side.end == RefutingEnd::Done);
-    let is_more = match max {
-        None => is_full || is_large,
-        Some(max) => is_done && max < MOST_REFUTED,
+    if any_ends(sides, RefutingEnd::Time) {
+        return longer(solving);
+    }
+    let is_full = any_ends(sides, RefutingEnd::Full);
+    let is_more = match solving.max {
+        None => is_full || any_ends(sides, RefutingEnd::TooLarge),
+        Some(max) => any_ends(sides, RefutingEnd::Done) && max < MOST_REFUTED,
     };
     Next {
         max: if is_more { Some(MOST_REFUTED) } else { None },
-        is_local: false,
-        entries: if is_full { more_entries(entries) } else { None },
+        entries: if is_full {
+            more_entries(solving.entries)
+        } else {
+            None
+        },
+        ..Next::NOTHING
+    }
+}
+
+fn any_ends(sides: &[Refuted], end: RefutingEnd) -> bool {
+    sides.iter().any(|side| side.end == end)
+}
+
+/// Ten times as many seconds, as far as there may be so many.
+pub(crate) fn longer(solving: Solving) -> Next {
+    let seconds = match solving.seconds {
+        Some(seconds) if seconds < MOST_SECONDS => {
+            Some(seconds.saturating_mul(10).min(MOST_SECONDS))
+        },
+        _ => None,
+    };
+    Next {
+        seconds,
+        ..Next::NOTHING
     }
 }
 
@@ -199,114 +316,5 @@ fn more_entries(entries: Option<u64>) -> Option<Option<u64>> {
         few if few < USUAL_ENTRIES => Some(Some(USUAL_ENTRIES)),
         many if many < most => Some(Some(most)),
         _ => Some(None),
-    }
-}
-
-/// Appends why neither was found, and what may help, where the machines would be of that kind.
-pub(crate) fn push_unsolved(
-    solved: Solved<'_>,
-    kind: Kind,
-    why: Unsolved,
-    out: &mut String,
-) -> Result<(), AllocError> {
-    let name = solved.name;
-    write!(out, "{name}: unknown: ")?;
-    let mut next = Next::NOTHING;
-    match why {
-        Unsolved::Withheld(side, why) if solved.has_reasons => push_withheld(side, why, out)?,
-        Unsolved::Neither(system, environment) if solved.has_reasons => {
-            out.push_str(NEITHER)?;
-            push_not_won("system", system, solved, out)?;
-            push_not_won("environment", environment, solved, out)?;
-            if !solved.is_brief() {
-                next = further(&[system.refuted, environment.refuted], solved.solving);
-            }
-        },
-        Unsolved::Withheld(..) | Unsolved::Neither(..) => out.push_str(NEITHER)?,
-    }
-    let other = match kind {
-        Kind::Mealy => "moore",
-        Kind::Moore => "mealy",
-    };
-    writeln!(out, "  try `--kind {other}`, where that kind serves")?;
-    out.push_str("  try `synth`, which searches for small machines in another way\n")?;
-    push_easier(out)?;
-    push_next(solved.command, next, out)
-}
-
-const NEITHER: &str = "neither a controller nor a counter-strategy was found\n";
-
-/// Appends why a side doesn't win, and how far its sizes were refuted.
-fn push_not_won(
-    side: &str,
-    unwon: Unwon,
-    solved: Solved<'_>,
-    out: &mut String,
-) -> Result<(), AllocError> {
-    let why = match unwon.why {
-        NotWon::AutomatonTooLarge => {
-            "its automaton passes a limit: 20,000 states, 2,000,000 edges, or 100,000 branches of one state"
-        },
-        NotWon::Ended(End::Over) => {
-            "it loses its games, or there is no room for more of their positions"
-        },
-        NotWon::Ended(End::Steps) => "the steps of the games are used up",
-        NotWon::NoMemory => "memory ran out in the games",
-    };
-    write!(out, "  {side}: {why}")?;
-    if !solved.is_brief() && unwon.why != NotWon::AutomatonTooLarge {
-        push_reached(unwon.refuted, solved.solving, out)?;
-    }
-    out.push('\n')
-}
-
-/// Appends which sizes of a side are refuted, and why no further one is.
-fn push_reached(
-    refuted: Refuted,
-    solving: Option<Solving>,
-    out: &mut String,
-) -> Result<(), AllocError> {
-    match refuted.sizes {
-        0 if refuted.end == RefutingEnd::Done => return Ok(()),
-        0 => {},
-        1 => out.push_str("; size 1 refuted")?,
-        2 => out.push_str("; sizes 1 and 2 refuted")?,
-        last => write!(out, "; sizes 1 to {last} refuted")?,
-    }
-    out.push_str("; ")?;
-    push_end(refuted, solving, out)
-}
-
-/// Appends why what a side wins with isn't printed.
-fn push_withheld(side: Side, why: Withheld, out: &mut String) -> Result<(), AllocError> {
-    out.push_str(match side {
-        Side::System => "the system wins, and its circuit isn't printed\n  ",
-        Side::Environment => "the environment wins, and its circuit isn't printed\n  ",
-    })?;
-    match why {
-        Withheld::CircuitTooLarge => out.push_str(
-            "it passes a limit: 1,000,000 moves of its machine, 100,000 variables, or the steps to make it\n",
-        ),
-        Withheld::TooManyStates => out.push_str(
-            "it passes a limit: 65,536 states, or 2^26 for their number times that of the letters that are read\n",
-        ),
-        Withheld::AnnotationTooLarge(limit) => {
-            let most = most_of(limit);
-            writeln!(out, "its annotation passes a limit: {most}")
-        },
-        Withheld::Loses => out.push_str("it loses on some input: this is a fault of boundsyn\n"),
-        Withheld::BadLine(line) => writeln!(
-            out,
-            "line {line} of its document fails the test: this is a fault of boundsyn"
-        ),
-    }
-}
-
-fn most_of(limit: Limit) -> &'static str {
-    match limit {
-        Limit::Pairs => "1,000,000 pairs of latch values and states",
-        Limit::States => "20,000 states",
-        Limit::Steps => "2^26 for its pairs times the letters that are read",
-        Limit::Leaves => "100,000 leaves of one state",
     }
 }

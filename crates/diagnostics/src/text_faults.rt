@@ -21,19 +21,25 @@ pub struct Source<'a> {
 /// Which command refuses a text, as far as a message goes by it.
 #[derive(Clone, Copy, PartialEq, Eq)]
 pub enum RefusedBy {
-    /// `solve`, which takes the largest texts.
+    /// `solve`, which takes the largest texts, or a command that takes what it takes.
     Solve,
     /// A command that searches for machines, where `solve` may take the text.
     Search,
+    /// `core`, which takes what `synth` takes, and in place of which there is no other command.
+    Core,
     Other,
 }
 
 impl RefusedBy {
-    /// By the name of the command.
-    pub fn of(command: &str) -> RefusedBy {
-        match command {
-            "solve" => RefusedBy::Solve,
-            "synth" | "core" | "batch" => RefusedBy::Search,
+    /// By the words of the command, its program's name among them.
+    pub fn of(words: &[String]) -> RefusedBy {
+        if words.iter().skip(2).any(|word| word.as_str() == "--solve") {
+            return RefusedBy::Solve;
+        }
+        match words.get(1).map(|word| word.as_str()) {
+            Some("solve") => RefusedBy::Solve,
+            Some("synth" | "batch") => RefusedBy::Search,
+            Some("core") => RefusedBy::Core,
             _ => RefusedBy::Other,
         }
     }

@@ -1,8 +1,9 @@
+use crate::nexts::{Next, is_plain, push_next, push_too_large};
 use document_text::Verdict;
 use letters_and_lassos::{Kind, Side};
 use machine_model::Counts;
 use outcome_news::{LogEnd, Searched, SideLogs};
-use program_words::{MOST_ALONE, MOST_ENTRIES};
+use program_words::MOST_ALONE;
 use std::alloc::{AllocError, Global};
 use std::fmt::Write;
 
@@ -43,10 +44,8 @@ pub(crate) fn push_unknown(
             push_bounded(side, u64::from(states), out)?;
             let sizes = Sizes::of(alloc, searched.logs.of(side))?;
             push_sizes(side, &sizes, searched, out)?;
-            out.push_str("\n")?;
-            let advice = Advice::bounded(searched);
-            push_advice(advice, searched, out)?;
-            push_next(command, advice.next(), out)
+            out.push('\n')?;
+            push_next("try", command, smaller(searched), out)
         },
         Verdict::Unknown(_) => {
             let system = Sizes::of(alloc, searched.logs.system)?;
@@ -54,9 +53,8 @@ pub(crate) fn push_unknown(
             push_open(&system, &environment, out)?;
             push_side(Side::System, &system, searched, out)?;
             push_side(Side::Environment, &environment, searched, out)?;
-            let advice = Advice::unknown(&system, &environment, searched);
-            push_advice(advice, searched, out)?;
-            push_next(command, advice.next(), out)
+            let next = further(&system, &environment, searched);
+            push_help(searched.kind, command, next, out)
         },
     }
 }
@@ -180,179 +178,86 @@ impl Count {
     }
 }
 
-/// What may help.
-#[derive(Clone, Copy)]
-struct Advice {
-    /// Where other base clauses may help.
-    counts: bool,
-    /// Whose sizes reached the greatest one that was asked for, where there are greater ones.
-    max: Option<&'static str>,
-    /// Where a log is full.
-    entries: bool,
-    /// Where the other kind may be answered: a Moore machine is a Mealy machine too, so none has a size that is refuted for Mealy machines.
-    kind: bool,
-    /// Where a size has too many base clauses.
-    is_cut: bool,
-}
-
-impl Advice {
-    fn bounded(searched: &Searched) -> Advice {
-        Advice {
-            counts: searched.counts == Counts::Whole,
-            max: None,
-            entries: true,
-            kind: false,
-            is_cut: false,
-        }
-    }
-
-    /// The options that try further.
-    fn next(self) -> Next {
-        Next {
-            max: self.max.map(|_| MOST_ALONE),
-            is_local: self.counts,
-            entries: if self.entries { Some(None) } else { None },
-        }
-    }
-
-    fn unknown(system: &Sizes, environment: &Sizes, searched: &Searched) -> Advice {
-        let max = u64::from(searched.max);
-        let is_cut = system.count < max || environment.count < max;
-        let is_full = !system.full.is_empty() || !environment.full.is_empty();
-        Advice {
-            counts: (is_cut || is_full) && searched.counts == Counts::Whole,
-            max: reaching(system, environment, max),
-            entries: is_full,
-            kind: searched.kind == Kind::Moore || !system.full.is_empty() || system.count == 0,
-            is_cut,
-        }
+/// Options that may help.
+fn further(system: &Sizes, environment: &Sizes, searched: &Searched) -> Next {
+    let max = u64::from(searched.max);
+    let is_cut = system.count < max || environment.count < max;
+    let is_full = !system.full.is_empty() || !environment.full.is_empty();
+    let is_more = searched.max < MOST_ALONE && (system.count >= max || environment.count >= max);
+    Next {
+        max: if is_more { Some(MOST_ALONE) } else { None },
+        is_local: (is_cut || is_full) && searched.counts == Counts::Whole,
+        entries: if is_full && searched.entries.is_some() {
+            Some(None)
+        } else {
+            None
+        },
+        ..Next::NOTHING
     }
 }
 
-/// Which side reached the greatest size that was asked for, where there are greater ones.
-fn reaching(system: &Sizes, environment: &Sizes, max: u64) -> Option<&'static str> {
-    if max >= u64::from(MOST_ALONE) {
-        return None;
-    }
-    match (system.count >= max, environment.count >= max) {
-        (true, true) => Some("both sides"),
-        (true, false) => Some("the system"),
-        (false, true) => Some("the environment"),
-        (false, false) => None,
+/// Options that may show that fewer states don't do, or find a machine with fewer.
+fn smaller(searched: &Searched) -> Next {
+    Next {
+        is_local: searched.counts == Counts::Whole,
+        entries: searched.entries.and(Some(None)),
+        ..Next::NOTHING
     }
 }
 
-fn push_advice(advice: Advice, searched: &Searched, out: &mut String) -> Result<(), AllocError> {
-    if advice.counts {
-        out.push_str("  try `--counts local`, with which a size has fewer base clauses\n")?;
-    }
-    if let Some(side) = advice.max {
-        writeln!(
-            out,
-            "  try a greater `--max`, up to {MOST_ALONE}, for {side}, as far as base clauses allow"
-        )?;
-    }
-    if advice.entries {
-        writeln!(
-            out,
-            "  try `--entries none`, or a greater number up to {MOST_ENTRIES}"
-        )?;
-    }
-    if advice.kind {
-        let other = match searched.kind {
-            Kind::Mealy => "moore",
-            Kind::Moore => "mealy",
-        };
-        writeln!(out, "  try `--kind {other}`, where that kind serves")?;
-    }
-    if advice.is_cut {
-        let other = if advice.counts { "other " } else { "" };
-        let most = most_clauses(searched);
-        writeln!(
-            out,
-            "  no {other}option allows a size with over {most} base clauses"
-        )?;
-    }
-    push_easier(out)
-}
-
-/// Appends which texts are easier.
-pub(crate) fn push_easier(out: &mut String) -> Result<(), AllocError> {
-    out.push_str(
-        "  fewer or simpler guarantees with F and U make the search easier: see docs/WRITING.md, and `tools/text-size` for how large a text is\n",
-    )
-}
-
-/// Options that try further than a command did.
-#[derive(Clone, Copy)]
-pub(crate) struct Next {
-    /// A greater `--max`.
-    pub(crate) max: Option<u32>,
-    /// Whether counts are to be bounded locally.
-    pub(crate) is_local: bool,
-    /// Another limit of entries, or that there is none.
-    pub(crate) entries: Option<Option<u64>>,
-}
-
-impl Next {
-    pub(crate) const NOTHING: Next = Next {
-        max: None,
-        is_local: false,
-        entries: None,
+/// Appends commands that may go further, or that there are none. A Mealy machine may do where no Moore machine does, and not the other way round.
+fn push_help(kind: Kind, command: &[&str], next: Next, out: &mut String) -> Result<(), AllocError> {
+    let by_games = if is_synth(command) {
+        push_solve(command, out)?
+    } else {
+        false
     };
-
-    fn is_nothing(self) -> bool {
-        self.max.is_none() && !self.is_local && self.entries.is_none()
-    }
-
-    /// Whether a word is an option to which another value is given.
-    fn replaces(self, word: &str) -> bool {
-        let (name, _) = word.split_once('=').unwrap_or((word, ""));
-        match name {
-            "--max" => self.max.is_some(),
-            "--counts" => self.is_local,
-            "--entries" => self.entries.is_some(),
-            _ => false,
-        }
-    }
-
-    /// Appends the options.
-    fn push_to(self, out: &mut String) -> Result<(), AllocError> {
-        if let Some(max) = self.max {
-            write!(out, " --max {max}")?;
-        }
-        if self.is_local {
-            out.push_str(" --counts local")?;
-        }
-        match self.entries {
-            Some(Some(entries)) => write!(out, " --entries {entries}"),
-            Some(None) => out.push_str(" --entries none"),
-            None => Ok(()),
-        }
+    push_next("try", command, next, out)?;
+    if kind == Kind::Moore {
+        push_next("where a Mealy machine serves", command, Next::MEALY, out)
+    } else if by_games || !next.is_nothing() {
+        Ok(())
+    } else {
+        push_too_large(out)
     }
 }
 
-/// Appends the words of a command with options that try further, where there are some and a shell reads the words as they are.
-pub(crate) fn push_next(command: &[&str], next: Next, out: &mut String) -> Result<(), AllocError> {
-    if next.is_nothing() || !command.iter().skip(1).all(|word| is_plain(word)) {
-        return Ok(());
-    }
-    out.push_str("  for instance: boundsyn")?;
-    let mut is_value = false;
-    for word in command.iter().skip(1) {
-        let is_replaced = !is_value && next.replaces(word);
-        if !is_value && !is_replaced {
-            out.push(' ')?;
-            out.push_str(word)?;
-        }
-        is_value = is_replaced && !word.contains('=');
-    }
-    next.push_to(out)?;
-    out.push('\n')
+/// Whether a command is `synth`, in place of which `solve` may do. A core is had of `core` alone.
+fn is_synth(command: &[&str]) -> bool {
+    command.get(1).is_some_and(|word| *word == "synth")
 }
 
-/// Whether a shell takes a word as it is.
-fn is_plain(word: &str) -> bool {
-    !word.is_empty()
-        && word.bytes().all(|byte| byte.is_ascii_alphanumeric() || b"_./=,:+@-".contains(&byte))
+/// Appends `solve` in place of a command, which plays games and isn't bound to eight states; and gives whether that could be written.
+fn push_solve(command: &[&str], out: &mut String) -> Result<bool, AllocError> {
+    let Some(name) = command.get(2) else {
+        return Ok(false);
+    };
+    if !is_plain(name) || name.starts_with('-') {
+        out.push_str("  try `solve`, which plays games, and isn't bound to eight states\n")?;
+        return Ok(true);
+    }
+    write!(
+        out,
+        "  try games, which aren't bound to eight states: boundsyn solve {name}"
+    )?;
+    if let Some(kind) = kind_in(command) {
+        write!(out, " --kind {kind}")?;
+    }
+    out.push('\n')?;
+    Ok(true)
+}
+
+/// The kind that a command names.
+fn kind_in<'a>(command: &[&'a str]) -> Option<&'a str> {
+    let mut is_next = false;
+    for word in command {
+        if is_next {
+            return Some(*word);
+        }
+        if let Some(kind) = word.strip_prefix("--kind=") {
+            return Some(kind);
+        }
+        is_next = *word == "--kind";
+    }
+    None
 }

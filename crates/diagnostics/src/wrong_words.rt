@@ -1,6 +1,6 @@
-use crate::VERSION;
-use crate::help::{push_forms, push_help};
+use crate::help::push_forms;
 use crate::nearest::Nearest;
+use crate::own_words::OWN_WORDS;
 use program_words::{COMMANDS, Command, Part, SOLVE_LIST, SOLVE_LIST_WORDS, Values, command_of};
 use shown_text::push_shown;
 use std::alloc::{AllocError, Global};
@@ -9,8 +9,6 @@ use std::fmt::Write;
 /// What is wrong with words, the first of them from the left.
 #[derive(Clone, Copy)]
 enum Wrong<'a> {
-    Help,
-    Version,
     NotText,
     NoCommand,
     UnknownCommand(&'a str),
@@ -20,27 +18,26 @@ enum Wrong<'a> {
     BadValue(Part, &'a str),
     NoName(Part),
     NameTooMany(&'a str),
+    /// `-o` names no file.
+    NoFile(&'a str),
+    /// An option that goes with `--solve`, which isn't there.
+    NotSolved(&'a str),
     /// None that is known here.
     Other,
 }
 
-/// Appends which of the words is wrong and why, and the form of its command or of all; or the help page, or the version.
+/// Appends which of the words is wrong and why, and the form of its command or of all.
 pub(crate) fn push_wrong_words(
     alloc: Global,
     words: &[String],
     out: &mut String,
 ) -> Result<(), AllocError> {
     let command = command_in(words);
-    match wrong_in(command, words) {
-        Wrong::Help => return push_help(out),
-        Wrong::Version => return writeln!(out, "boundsyn {VERSION}"),
-        wrong => {
-            out.push_str("boundsyn: error: ")?;
-            push_wrong(alloc, wrong, out)?;
-            out.push('\n')?;
-            push_hint(alloc, wrong, command, out)?;
-        },
-    }
+    let wrong = wrong_in(command, words);
+    out.push_str("boundsyn: error: ")?;
+    push_wrong(alloc, wrong, out)?;
+    out.push('\n')?;
+    push_hint(alloc, wrong, command, out)?;
     match command {
         Some(command) => {
             out.push_str("  the words are: boundsyn ")?;
@@ -54,11 +51,7 @@ pub(crate) fn push_wrong_words(
 /// The command that the words name.
 fn command_in(words: &[String]) -> Option<Command> {
     let command = command_of(words.get(1)?.as_str())?;
-    let is_solved = command.name == SOLVE_LIST_WORDS.name
-        && words
-            .iter()
-            .skip(2)
-            .any(|word| names_option(word.as_str(), "--solve"));
+    let is_solved = command.name == SOLVE_LIST_WORDS.name && is_given(words, "--solve");
     Some(if is_solved { SOLVE_LIST } else { command })
 }
 
@@ -86,7 +79,15 @@ fn push_wrong(alloc: Global, wrong: Wrong<'_>, out: &mut String) -> Result<(), A
             out.push_str(" is no value of ")?;
             push_values(part, out)
         },
-        Wrong::Help | Wrong::Version | Wrong::Other => out.push_str("the words have another form"),
+        Wrong::NoFile(word) => {
+            push_about(alloc, "", word, out)?;
+            out.push_str(" has no value: the name of a file")
+        },
+        Wrong::NotSolved(word) => {
+            push_about(alloc, "", word, out)?;
+            out.push_str(" goes with `--solve`, which isn't given")
+        },
+        Wrong::Other => out.push_str("the words have another form"),
     }
 }
 
@@ -98,9 +99,16 @@ fn push_hint(
     out: &mut String,
 ) -> Result<(), AllocError> {
     match wrong {
-        Wrong::UnknownOption(word) if OWN.contains(&word) => writeln!(
+        Wrong::UnknownOption(word) if OWN_WORDS.contains(&word) => writeln!(
             out,
             "  note: `{word}` stands before the command, as in `boundsyn {word} synth SPEC`"
+        ),
+        Wrong::UnknownOption(word) if is_output(word) => out.push_str(
+            "  note: `-o` and its file stand before the command, as in `boundsyn -o FILE synth SPEC`\n",
+        ),
+        Wrong::UnknownOption(word) if is_of_solved_list(command, word) => writeln!(
+            out,
+            "  note: `{word}` goes with `--solve`, as in `boundsyn batch --solve LIST`"
         ),
         Wrong::UnknownOption(word) => push_nearest_option(alloc, word, command, out),
         Wrong::UnknownCommand(word) if word.contains(['.', '/']) => out.push_str(
@@ -117,8 +125,16 @@ fn push_hint(
     }
 }
 
-/// The words of the program itself.
-const OWN: [&str; 3] = ["--progress", "--quiet", "--verbose"];
+/// Whether a word names the file of the output.
+fn is_output(word: &str) -> bool {
+    word == "-o" || names_option(word, "--output")
+}
+
+/// Whether a word is an option of `batch --solve` alone, and the command is `batch` without it.
+fn is_of_solved_list(command: Option<Command>, word: &str) -> bool {
+    command.is_some_and(|command| command.name == SOLVE_LIST_WORDS.name)
+        && SOLVE_LIST.option(word).is_some()
+}
 
 fn push_nearest_option(
     alloc: Global,
@@ -129,7 +145,7 @@ fn push_nearest_option(
     let (name, _) = word.split_once('=').unwrap_or((word, ""));
     let mut nearest = Nearest::new(name);
     let Some(command) = command else {
-        for own in OWN {
+        for own in OWN_WORDS {
             nearest.compare(alloc, own)?;
         }
         let is_known = COMMANDS
@@ -192,12 +208,24 @@ fn wrong_in<'a>(command: Option<Command>, words: &'a [String]) -> Wrong<'a> {
     };
     let first = first.as_str();
     match (first, command) {
-        ("--help" | "-h" | "help", _) => Wrong::Help,
-        ("--version" | "-V", _) => Wrong::Version,
+        _ if is_output(first) => wrong_output(first, words),
         ("--progress" | "--quiet" | "--verbose", _) => Wrong::Twice(first),
         (_, None) if first.starts_with('-') => Wrong::UnknownOption(first),
         (_, None) => Wrong::UnknownCommand(first),
         (_, Some(command)) => wrong_behind(as_read(command), words),
+    }
+}
+
+/// What is wrong with a word for the output's file that was left where it stood: it names none, or is the second one.
+fn wrong_output<'a>(word: &'a str, words: &[String]) -> Wrong<'a> {
+    let name = match word.split_once('=') {
+        Some((_, name)) => name,
+        None => words.get(2).map_or("", |name| name.as_str()),
+    };
+    if name.is_empty() {
+        Wrong::NoFile(word)
+    } else {
+        Wrong::Twice(word)
     }
 }
 
@@ -248,7 +276,6 @@ impl Reading {
                 self.is_plain = true;
                 None
             },
-            "--help" | "-h" => Some(Wrong::Help),
             _ => self.wrong_option(command, word, before),
         }
     }
@@ -294,9 +321,31 @@ impl Reading {
         match (open, command.places.get(self.names)) {
             (Some(option), _) => Wrong::NoValue(option),
             (None, Some(place)) => Wrong::NoName(*place),
-            (None, None) => Wrong::Other,
+            (None, None) => wrong_without_solve(command, words),
         }
     }
+}
+
+/// The option that `expand` and `lasso` have with `--solve` alone, where that isn't given.
+fn wrong_without_solve<'a>(command: Command, words: &[String]) -> Wrong<'a> {
+    let has_solve = !command.places.is_empty() && command.option("--solve").is_some();
+    if !has_solve || is_given(words, "--solve") {
+        Wrong::Other
+    } else if is_given(words, "--nodes") {
+        Wrong::NotSolved("--nodes")
+    } else if is_given(words, "--kind") {
+        Wrong::NotSolved("--kind")
+    } else {
+        Wrong::Other
+    }
+}
+
+/// Whether an option is given.
+fn is_given(words: &[String], name: &str) -> bool {
+    words
+        .iter()
+        .skip(2)
+        .any(|word| names_option(word.as_str(), name))
 }
 
 /// The option that the last word names.

@@ -10,4 +10,4 @@ mod texts;
 mod words;
 
 pub use texts::{Expansion, expanded};
-pub use words::lasso_answer;
+pub use words::{lasso_answer, truth_line};

@@ -32,7 +32,8 @@ pub fn lasso_answer(alloc: Global, spec: &Spec, word: &[u8]) -> Result<Reply, Al
     whole(alloc, truth_line(truth), Status::Done)
 }
 
-fn truth_line(is_true: bool) -> &'static [u8]
+/// The line that tells a truth.
+pub fn truth_line(is_true: bool) -> &'static [u8]
     ensures { result.now ≡ truth_line is_true }
 {
     if is_true { b"true\n" } else { b"false\n" }

@@ -39,19 +39,24 @@ lines_in x =
     ++ map (Formula Require) x.sections.require ++ map (Formula Assert) x.sections.assert
     ++ map (Formula Assume) x.sections.assume ++ map (Formula Guarantee) x.sections.guarantee
 
-abbrev pub line_of : FlatText → Line → List ℕ
-line_of flat Kinds = kind_line flat.expanded.kind flat.expanded.strict
-line_of flat Inputs = names_line (codes "inputs") flat.expanded.inputs
-line_of flat Outputs = names_line (codes "outputs") flat.expanded.outputs
-line_of flat (Formula section id) = section_word section ++ 32 ∷ formula_text (all_names flat.expanded) (tree_at flat.formulas id)
+-- a line where signals have these names in formulas
+abbrev pub line_by : List (List ℕ) → FlatText → Line → List ℕ
+line_by names flat Kinds = kind_line flat.expanded.kind flat.expanded.strict
+line_by names flat Inputs = names_line (codes "inputs") flat.expanded.inputs
+line_by names flat Outputs = names_line (codes "outputs") flat.expanded.outputs
+line_by names flat (Formula section id) = section_word section ++ 32 ∷ formula_text names (tree_at flat.formulas id)
 
 -- a line with its end
-abbrev pub ended_line : FlatText → Line → List ℕ
-ended_line flat line = line_of flat line ++ 10 ∷ []
+abbrev pub ended_line : List (List ℕ) → FlatText → Line → List ℕ
+ended_line names flat line = line_by names flat line ++ 10 ∷ []
+
+-- the flat text written out, where signals have these names in formulas
+abbrev pub flat_bytes_by : List (List ℕ) → FlatText → List ℕ
+flat_bytes_by names flat = flat_map (ended_line names flat) (lines_in flat.expanded)
 
 -- the flat text written out
 abbrev pub flat_bytes : FlatText → List ℕ
-flat_bytes flat = flat_map (ended_line flat) (lines_in flat.expanded)
+flat_bytes flat = flat_bytes_by (all_names flat.expanded) flat
 
 -- the formula of a line stands in the list
 abbrev pub LineStands : List Node → Line → Type 0

@@ -10,4 +10,4 @@ mod names;
 mod put;
 
 pub use names::all_names;
-pub use put::put_flat;
+pub use put::{put_flat, put_flat_by};

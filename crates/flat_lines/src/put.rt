@@ -1,5 +1,5 @@
-ghost use Rattle.std.specs.Prelude.{◌≡◌, ◌++◌, ◌∷◌, [], All, flat_map, IfOk, OnOk, OnErr, IsErrOf};
-ghost use Rattle.flat_lines.specs.FlatLines.{CanBeWritten, LineStands, all_names, ended_line, flat_bytes, kind_line, line_of};
+ghost use Rattle.std.specs.Prelude.{◌≡◌, ◌++◌, ◌∷◌, [], All, flat_map, length, IfOk, OnOk, OnErr, IsErrOf};
+ghost use Rattle.flat_lines.specs.FlatLines.{CanBeWritten, LineStands, all_names, ended_line, flat_bytes, flat_bytes_by, kind_line, line_by};
 ghost use Rattle.ltl_formula.specs.Nodes.{IsNodeList};
 ghost use Rattle.input_output.specs.Bytes.{Gains, GainsFront};
 ghost use Rattle.input_output.specs.Faults.{Rose};
@@ -24,8 +24,25 @@ pub fn put_flat<K: Sink>(alloc: Global, spec: &Spec, out: &mut K) -> Result<(), 
     ensures failed { IsErrOf result SinkFault.Failed → Rose (K.faults out.old) (K.faults out.new) }
 {
     let names = all_names(alloc, spec)?;
+    put_flat_by(alloc, spec, &names, out)
+}
+
+/// The same where signals have these names in formulas.
+pub fn put_flat_by<K: Sink>(
+    alloc: Global,
+    spec: &Spec,
+    names: &[Name],
+    out: &mut K,
+) -> Result<(), SinkFault>
+    requires names { length names.now ≡ length (all_names (spec_seen spec.now).expanded) }
+    requires writable { CanBeWritten (spec_seen spec.now) }
+    ensures ok { OnOk result (Gains (K.written out.old) (K.written out.new) (flat_bytes_by names.now (spec_seen spec.now))) }
+    ensures front { OnErr result (GainsFront (K.written out.old) (K.written out.new) (flat_bytes_by names.now (spec_seen spec.now))) }
+    ensures failed { IsErrOf result SinkFault.Failed → Rose (K.faults out.old) (K.faults out.new) }
+    ensures not_failed { OnOk result (K.faults out.new ≡ K.faults out.old) }
+{
     let lines = lines_in(alloc, spec)?;
-    put_lines(alloc, spec, &names, &lines, out)
+    put_lines(alloc, spec, names, &lines, out)
 }
 
 fn put_lines<K: Sink>(
@@ -35,12 +52,13 @@ fn put_lines<K: Sink>(
     lines: &[Line],
     out: &mut K,
 ) -> Result<(), SinkFault>
-    requires names { names.now ≡ all_names (spec_seen spec.now).expanded }
+    requires names { length names.now ≡ length (all_names (spec_seen spec.now).expanded) }
     requires writable { CanBeWritten (spec_seen spec.now) }
     requires stand { All (LineStands (spec_seen spec.now).formulas) lines.now }
-    ensures ok { OnOk result (Gains (K.written out.old) (K.written out.new) (flat_map (ended_line (spec_seen spec.now)) lines.now)) }
-    ensures front { OnErr result (GainsFront (K.written out.old) (K.written out.new) (flat_map (ended_line (spec_seen spec.now)) lines.now)) }
+    ensures ok { OnOk result (Gains (K.written out.old) (K.written out.new) (flat_map (ended_line names.now (spec_seen spec.now)) lines.now)) }
+    ensures front { OnErr result (GainsFront (K.written out.old) (K.written out.new) (flat_map (ended_line names.now (spec_seen spec.now)) lines.now)) }
     ensures failed { IsErrOf result SinkFault.Failed → Rose (K.faults out.old) (K.faults out.new) }
+    ensures not_failed { OnOk result (K.faults out.new ≡ K.faults out.old) }
 {
     for line in lines {
         put_line(alloc, spec, names, *line, out)?;
@@ -55,11 +73,11 @@ fn put_line<K: Sink>(
     line: Line,
     out: &mut K,
 ) -> Result<(), SinkFault>
-    requires names { names.now ≡ all_names (spec_seen spec.now).expanded }
+    requires names { length names.now ≡ length (all_names (spec_seen spec.now).expanded) }
     requires writable { CanBeWritten (spec_seen spec.now) }
     requires stands { LineStands (spec_seen spec.now).formulas line }
-    ensures ok { OnOk result (Gains (K.written out.old) (K.written out.new) (ended_line (spec_seen spec.now) line)) }
-    ensures front { OnErr result (GainsFront (K.written out.old) (K.written out.new) (ended_line (spec_seen spec.now) line)) }
+    ensures ok { OnOk result (Gains (K.written out.old) (K.written out.new) (ended_line names.now (spec_seen spec.now) line)) }
+    ensures front { OnErr result (GainsFront (K.written out.old) (K.written out.new) (ended_line names.now (spec_seen spec.now) line)) }
     ensures failed { IsErrOf result SinkFault.Failed → Rose (K.faults out.old) (K.faults out.new) }
     ensures not_failed { OnOk result (K.faults out.new ≡ K.faults out.old) }
 {
@@ -69,10 +87,10 @@ fn put_line<K: Sink>(
 
 /// A line with its end.
 fn line_text(alloc: Global, spec: &Spec, names: &[Name], line: Line) -> Result<Vec<u8>, AllocError>
-    requires names { names.now ≡ all_names (spec_seen spec.now).expanded }
+    requires names { length names.now ≡ length (all_names (spec_seen spec.now).expanded) }
     requires writable { CanBeWritten (spec_seen spec.now) }
     requires stands { LineStands (spec_seen spec.now).formulas line }
-    ensures { IfOk result (λ text. text.items ≡ ended_line (spec_seen spec.now) line) }
+    ensures { IfOk result (λ text. text.items ≡ ended_line names.now (spec_seen spec.now) line) }
 {
     let mut text = Vec::new(alloc);
     write_line(spec, names, line, &mut text)?;
@@ -82,10 +100,10 @@ fn line_text(alloc: Global, spec: &Spec, names: &[Name], line: Line) -> Result<V
 
 /// Appends the line without its end.
 fn write_line(spec: &Spec, names: &[Name], line: Line, text: &mut Vec<u8>) -> Result<(), AllocError>
-    requires names { names.now ≡ all_names (spec_seen spec.now).expanded }
+    requires names { length names.now ≡ length (all_names (spec_seen spec.now).expanded) }
     requires writable { CanBeWritten (spec_seen spec.now) }
     requires stands { LineStands (spec_seen spec.now).formulas line }
-    ensures { IfOk result (λ _. text.new.items ≡ text.old.items ++ line_of (spec_seen spec.now) line) }
+    ensures { IfOk result (λ _. text.new.items ≡ text.old.items ++ line_by names.now (spec_seen spec.now) line) }
 {
     match line {
         Line::Kinds => text.extend_from_slice(kind_line(spec.kind, spec.strict)),

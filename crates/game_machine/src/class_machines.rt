@@ -7,6 +7,7 @@ use indexmap::IndexSet;
 use letters_and_lassos::Kind;
 use safety_game::{Win, WinNode};
 use std::alloc::{AllocError, Global};
+use time_limits::Deadline;
 
 /// What a machine does in one state on some letters that it reads: what it writes, as a whole letter, and the state after it.
 #[derive(Clone, Copy)]
@@ -28,7 +29,11 @@ pub const MOST_MOVES: usize = 1_000_000;
 
 impl ClassMachine {
     /// The machine of a win, with the states that are reached.
-    pub(crate) fn of_win(alloc: Global, win: &mut Win<'_>) -> Result<ClassMachine, Stop> {
+    pub(crate) fn of_win<D: Deadline>(
+        alloc: Global,
+        win: &mut Win<'_>,
+        deadline: &D,
+    ) -> Result<ClassMachine, Stop> {
         let mut states = Vec::new(alloc);
         let mut count = 0usize;
         let mut met = IndexSet::new(alloc);
@@ -37,6 +42,9 @@ impl ClassMachine {
             let Some(node) = met.get_index(place).copied() else {
                 break;
             };
+            if deadline.is_over() {
+                return Err(Stop::Steps);
+            }
             let mut moves = moves_of(alloc, win, node)?;
             renumber(&mut moves, &mut met)?;
             count = count.saturating_add(moves.len());

@@ -4,17 +4,19 @@ use crate::class_machines::ClassMachine;
 use crate::products::is_won;
 use game_arena::{Arena, Meter, Stop};
 use std::alloc::{AllocError, Global};
+use time_limits::Deadline;
 
-/// Leads all moves into one state to another, again and again, as long as the machine still wins and the meter has steps.
-pub(crate) fn with_fewer_states(
+/// Leads all moves into one state to another, again and again, as long as the machine still wins, the meter has steps, and there is time.
+pub(crate) fn with_fewer_states<D: Deadline>(
     alloc: Global,
     machine: ClassMachine,
     arena: &Arena,
     meter: &mut Meter,
+    deadline: &D,
 ) -> ClassMachine {
     let mut least = machine;
     for _ in 0..least.states.len() {
-        match one_fewer(alloc, &least, arena, meter) {
+        match one_fewer(alloc, &least, arena, meter, deadline) {
             Ok(Some(lesser)) => least = lesser,
             _ => break,
         }
@@ -23,11 +25,12 @@ pub(crate) fn with_fewer_states(
 }
 
 /// A machine with one state less or more, if leading the moves into one state to another makes one.
-fn one_fewer(
+fn one_fewer<D: Deadline>(
     alloc: Global,
     machine: &ClassMachine,
     arena: &Arena,
     meter: &mut Meter,
+    deadline: &D,
 ) -> Result<Option<ClassMachine>, Stop> {
     let count = u32::try_from(machine.states.len()).unwrap_or(0);
     let copying = machine.moves() / 8;
@@ -35,6 +38,9 @@ fn one_fewer(
         for to in 0..count {
             if from == to {
                 continue;
+            }
+            if deadline.is_over() {
+                return Err(Stop::Steps);
             }
             meter.take(copying)?;
             let other = redirected(alloc, machine, from, to)?;

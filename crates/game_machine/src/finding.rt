@@ -11,6 +11,7 @@ use names_and_numbers::Name;
 use safety_game::{Budget, Win};
 use std::alloc::{AllocError, Global};
 use std::thread::Threads;
+use time_limits::Deadline;
 
 /// What is played for: the signals by their names, the kind of the system's machines, and for each side that plays an automaton that
 /// accepts what the side has to keep away from. In its letters the inputs come before the outputs; there are at most 32 signals.
@@ -40,7 +41,8 @@ pub enum Outcome {
     Found(Found),
     /// Nobody wins.
     NoWin(End),
-    /// This side wins, and its machine has too many moves, its circuit has too many variables, or they take too many steps to make.
+    /// This side wins, and its machine has too many moves, its circuit has too many variables, or they take too many steps to make, or more
+    /// time than there is.
     NoCircuit(Side),
 }
 
@@ -51,33 +53,38 @@ pub enum End {
     Over,
     /// The budget's steps are used up.
     Steps,
+    /// The time is over.
+    Time,
 }
 
-/// Plays rounds of both sides until one of them wins, no game is left that could be won, or the budget is used up. Where there are two
-/// workers, each side has a thread of its own; what is found is the same. An error says that memory ran out.
-pub fn find<R: Threads>(
+/// Plays rounds of both sides until one of them wins, no game is left that could be won, or the budget is used up, or the time. Where there
+/// are two workers, each side has a thread of its own; what is found is the same. An error says that memory ran out.
+pub fn find<R: Threads, D: Deadline + Sync>(
     rt: &R,
     alloc: Global,
     contest: Contest<'_>,
     budget: Budget,
     workers: u32,
+    deadline: &D,
 ) -> Result<Outcome, AllocError> {
     let mut left = budget;
     let system = contest.arena(alloc, Side::System, &mut left)?;
     let environment = contest.arena(alloc, Side::Environment, &mut left)?;
     let mut sides = Sides::new(alloc, system.as_ref(), environment.as_ref())?;
-    match sides.first_win(rt, workers, &mut left)? {
-        Some(win) => contest.found(alloc, win),
-        None => Ok(Outcome::NoWin(end_of(left))),
+    match sides.first_win(rt, workers, &mut left, deadline)? {
+        Some(win) => contest.found(alloc, win, deadline),
+        None => Ok(Outcome::NoWin(end_of(left, sides.are_over()))),
     }
 }
 
-/// How games that nobody won ended, by what is left of their budget.
-fn end_of(left: Budget) -> End {
+/// How games that nobody won ended, by what is left of their budget, and whether none is left that could be won.
+fn end_of(left: Budget, are_over: bool) -> End {
     if left.steps == 0 {
         End::Steps
-    } else {
+    } else if are_over {
         End::Over
+    } else {
+        End::Time
     }
 }
 
@@ -115,14 +122,19 @@ impl Contest<'_> {
     }
 
     /// The circuit of a win.
-    fn found(&self, alloc: Global, win: Win<'_>) -> Result<Outcome, AllocError> {
+    fn found<D: Deadline>(
+        &self,
+        alloc: Global,
+        win: Win<'_>,
+        deadline: &D,
+    ) -> Result<Outcome, AllocError> {
         let side = win.game.arena.player.side;
         let (read, written) = match side {
             Side::System => (self.inputs, self.outputs),
             Side::Environment => (self.outputs, self.inputs),
         };
         let steps = win.steps;
-        let Some(machine) = unless_memory(machine_of(alloc, win))? else {
+        let Some(machine) = unless_memory(machine_of(alloc, win, deadline))? else {
             return Ok(Outcome::NoCircuit(side));
         };
         let states = machine.states.len();

@@ -5,6 +5,7 @@ use game_arena::Stop;
 use game_moves::Game;
 use safety_game::{Answer, Win, WinNode};
 use std::alloc::{AllocError, Global};
+use time_limits::Deadline;
 
 /// So many times all positions are gone through.
 const MOST_ROUNDS: usize = 20;
@@ -12,31 +13,41 @@ const MOST_ROUNDS: usize = 20;
 /// So many steps more than the win took may be used to find the answers anew.
 const MOST_REBUILDING: u64 = 1_000_000;
 
-/// Makes the positions of a win great, as long as the game's meter has steps. They have answers among each other then as before.
-pub(crate) fn make_great(alloc: Global, win: &mut Win<'_>) -> Result<(), Stop> {
+/// Makes the positions of a win great, as long as the game's meter has steps and there is time. They have answers among each other then as
+/// before.
+pub(crate) fn make_great<D: Deadline>(
+    alloc: Global,
+    win: &mut Win<'_>,
+    deadline: &D,
+) -> Result<(), Stop> {
     let mut pool = Vec::new(alloc);
     for node in &win.nodes {
         pool.push(node.position)?;
     }
-    match grow(alloc, &mut win.game, &mut pool) {
+    match grow(alloc, &mut win.game, &mut pool, deadline) {
         Err(Stop::NoMemory) => return Err(Stop::NoMemory),
         _ => win
             .game
             .meter
             .refill(win.steps.saturating_add(MOST_REBUILDING)),
     }
-    if let Some(nodes) = rebuilt(alloc, &mut win.game, &pool)? {
+    if let Some(nodes) = rebuilt(alloc, &mut win.game, &pool, deadline)? {
         win.nodes = nodes;
         win.start = 0;
     }
     Ok(())
 }
 
-fn grow(alloc: Global, game: &mut Game<'_>, pool: &mut Vec<u32>) -> Result<(), Stop> {
+fn grow<D: Deadline>(
+    alloc: Global,
+    game: &mut Game<'_>,
+    pool: &mut Vec<u32>,
+    deadline: &D,
+) -> Result<(), Stop> {
     for _ in 0..MOST_ROUNDS {
         let before = pool.len();
-        raise_all(alloc, game, pool)?;
-        let joins = join_all(alloc, game, pool)?;
+        raise_all(alloc, game, pool, deadline)?;
+        let joins = join_all(alloc, game, pool, deadline)?;
         if !joins && pool.len() >= before {
             break;
         }
@@ -45,12 +56,20 @@ fn grow(alloc: Global, game: &mut Game<'_>, pool: &mut Vec<u32>) -> Result<(), S
 }
 
 /// Raises the numbers of each position.
-fn raise_all(alloc: Global, game: &mut Game<'_>, pool: &mut Vec<u32>) -> Result<(), Stop> {
+fn raise_all<D: Deadline>(
+    alloc: Global,
+    game: &mut Game<'_>,
+    pool: &mut Vec<u32>,
+    deadline: &D,
+) -> Result<(), Stop> {
     let mut place = 0usize;
     for _ in 0..pool.len() {
         let Some(position) = pool.get(place).copied() else {
             break;
         };
+        if deadline.is_over() {
+            return Err(Stop::Steps);
+        }
         let greater = raised(alloc, game, pool, position)?;
         place = put(alloc, game, pool, place, greater)?.saturating_add(1);
     }
@@ -106,7 +125,12 @@ fn raised_at(
 }
 
 /// Joins pairs of positions. Whether some were.
-fn join_all(alloc: Global, game: &mut Game<'_>, pool: &mut Vec<u32>) -> Result<bool, Stop> {
+fn join_all<D: Deadline>(
+    alloc: Global,
+    game: &mut Game<'_>,
+    pool: &mut Vec<u32>,
+    deadline: &D,
+) -> Result<bool, Stop> {
     let mut joins = false;
     let mut place = 0usize;
     for _ in 0..pool.len() {
@@ -116,6 +140,9 @@ fn join_all(alloc: Global, game: &mut Game<'_>, pool: &mut Vec<u32>) -> Result<b
             else {
                 break;
             };
+            if deadline.is_over() {
+                return Err(Stop::Steps);
+            }
             let both = joined(game, one, second)?;
             if with_answers(alloc, game, both, pool)?.is_some() {
                 place = put(alloc, game, pool, place, both)?;
@@ -165,7 +192,12 @@ fn put(
 }
 
 /// The nodes of the pool that are reached, with answers in it; None where there is no start or an answer is missing.
-fn rebuilt(alloc: Global, game: &mut Game<'_>, pool: &[u32]) -> Result<Option<Vec<WinNode>>, Stop> {
+fn rebuilt<D: Deadline>(
+    alloc: Global,
+    game: &mut Game<'_>,
+    pool: &[u32],
+    deadline: &D,
+) -> Result<Option<Vec<WinNode>>, Stop> {
     let start = game.start()?;
     let Some(first) = first_above(&game.positions, start, pool) else {
         return Ok(None);
@@ -176,6 +208,9 @@ fn rebuilt(alloc: Global, game: &mut Game<'_>, pool: &[u32]) -> Result<Option<Ve
         let Some(position) = order.get(place).copied() else {
             break;
         };
+        if deadline.is_over() {
+            return Ok(None);
+        }
         let mut preferred = order.clone()?;
         preferred.extend_from_slice(pool)?;
         let Some(own) = with_answers(alloc, game, position, &preferred)? else {

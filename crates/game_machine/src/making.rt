@@ -7,6 +7,7 @@ use crate::spare_positions::drop_spare;
 use game_arena::{Meter, Stop};
 use safety_game::Win;
 use std::alloc::Global;
+use time_limits::Deadline;
 
 /// Each way to make a machine small may take as many steps as the win did, or so many.
 const LEAST_STEPS: u64 = 100_000;
@@ -16,24 +17,29 @@ const MAKING_TIMES: u64 = 10;
 
 const LEAST_MAKING: u64 = 10_000_000;
 
-/// A small machine of a win, or what kept it from being made.
-pub(crate) fn machine_of(alloc: Global, win: Win<'_>) -> Result<ClassMachine, Stop> {
+/// A small machine of a win, or what kept it from being made. Once the time is over it is made no smaller.
+pub(crate) fn machine_of<D: Deadline>(
+    alloc: Global,
+    win: Win<'_>,
+    deadline: &D,
+) -> Result<ClassMachine, Stop> {
     let mut win = win;
     let steps = win.steps.max(LEAST_STEPS);
     win.game.meter.refill(steps);
-    as_far_as_it_came(drop_spare(alloc, &mut win))?;
+    as_far_as_it_came(drop_spare(alloc, &mut win, deadline))?;
     win.compact()?;
     win.game.meter.refill(steps);
-    as_far_as_it_came(make_great(alloc, &mut win))?;
+    as_far_as_it_came(make_great(alloc, &mut win, deadline))?;
     win.game.meter.refill(steps);
-    as_far_as_it_came(drop_spare(alloc, &mut win))?;
+    as_far_as_it_came(drop_spare(alloc, &mut win, deadline))?;
     win.compact()?;
     win.game
         .meter
         .refill(steps.saturating_mul(MAKING_TIMES).max(LEAST_MAKING));
-    let machine = ClassMachine::of_win(alloc, &mut win)?;
+    let machine = ClassMachine::of_win(alloc, &mut win, deadline)?;
     let mut meter = Meter::new(steps);
-    Ok(with_fewer_states(alloc, machine, win.game.arena, &mut meter))
+    let arena = win.game.arena;
+    Ok(with_fewer_states(alloc, machine, arena, &mut meter, deadline))
 }
 
 /// Where the budget ended a way to make the win small, it stands as far as that came.

@@ -5,6 +5,7 @@ use safety_game::{Budget, Rounds, Win};
 use std::alloc::{AllocError, Global};
 use std::sync::atomic::{AtomicBool, Ordering};
 use std::thread::{self, Threads};
+use time_limits::Deadline;
 
 /// The first game of each side may take so many steps, or an eighth of the budget where that is less, so that each game has its turn.
 /// From round to round there are four times as many.
@@ -29,22 +30,23 @@ impl<'a> Sides<'a> {
         })
     }
 
-    /// Plays rounds until a side wins, no game is left that could be won, or the budget is used up. In a round each side may take an equal
-    /// part of the steps that are left before it, so that how many workers there are changes nothing.
-    pub(crate) fn first_win<R: Threads>(
+    /// Plays rounds until a side wins, no game is left that could be won, or the budget is used up, or the time. In a round each side may take
+    /// an equal part of the steps that are left before it, so that how many workers there are changes nothing.
+    pub(crate) fn first_win<R: Threads, D: Deadline + Sync>(
         &mut self,
         rt: &R,
         workers: u32,
         left: &mut Budget,
+        deadline: &D,
     ) -> Result<Option<Win<'a>>, AllocError> {
         let mut slice = FIRST_SLICE.min(left.steps / 8);
         for _ in 0..64 {
-            if self.are_over() || left.steps == 0 {
+            if self.are_over() || left.steps == 0 || deadline.is_over() {
                 break;
             }
             let before = self.used();
             let share = self.share(*left);
-            let won = self.round(rt, workers, share, slice)?;
+            let won = self.round(rt, workers, share, slice, deadline)?;
             left.steps = left
                 .steps
                 .saturating_sub(self.used().saturating_sub(before));
@@ -57,7 +59,7 @@ impl<'a> Sides<'a> {
     }
 
     /// Whether no game is left that could be won.
-    fn are_over(&self) -> bool {
+    pub(crate) fn are_over(&self) -> bool {
         !is_playing(&self.system) && !is_playing(&self.environment)
     }
 
@@ -76,20 +78,21 @@ impl<'a> Sides<'a> {
     }
 
     /// A round of each side that plays, with so many steps for each.
-    fn round<R: Threads>(
+    fn round<R: Threads, D: Deadline + Sync>(
         &mut self,
         rt: &R,
         workers: u32,
         share: Budget,
         slice: u64,
+        deadline: &D,
     ) -> Result<Option<Win<'a>>, AllocError> {
         let Some(system) = &mut self.system else {
-            return play_alone(&mut self.environment, share, slice);
+            return play_alone(&mut self.environment, share, slice, deadline);
         };
         let Some(environment) = &mut self.environment else {
-            return system.play(share, slice, &AtomicBool::new(false));
+            return system.play(share, slice, &AtomicBool::new(false), deadline);
         };
-        play_both(rt, workers, system, environment, share, slice)
+        play_both(rt, workers, system, environment, share, slice, deadline)
     }
 }
 
@@ -117,39 +120,41 @@ fn used_by(rounds: &Option<Rounds<'_>>) -> u64 {
     }
 }
 
-fn play_alone<'a>(
+fn play_alone<'a, D: Deadline>(
     rounds: &mut Option<Rounds<'a>>,
     share: Budget,
     slice: u64,
+    deadline: &D,
 ) -> Result<Option<Win<'a>>, AllocError> {
     match rounds {
-        Some(rounds) => rounds.play(share, slice, &AtomicBool::new(false)),
+        Some(rounds) => rounds.play(share, slice, &AtomicBool::new(false), deadline),
         None => Ok(None),
     }
 }
 
 /// A round of both sides. What comes of the system's counts first, so that where it wins the environment's games aren't played on; they
 /// never end the system's, which would make the round depend on who is faster.
-fn play_both<'a, R: Threads>(
+fn play_both<'a, R: Threads, D: Deadline + Sync>(
     rt: &R,
     workers: u32,
     system: &mut Rounds<'a>,
     environment: &mut Rounds<'a>,
     share: Budget,
     slice: u64,
+    deadline: &D,
 ) -> Result<Option<Win<'a>>, AllocError> {
     let is_decided = AtomicBool::new(false);
     if workers < 2 {
-        let first = play_first(system, share, slice, &is_decided)?;
+        let first = play_first(system, share, slice, &is_decided, deadline)?;
         return match first {
             Some(win) => Ok(Some(win)),
-            None => environment.play(share, slice, &is_decided),
+            None => environment.play(share, slice, &is_decided, deadline),
         };
     }
     let (second, first) = thread::join(
         rt,
-        || environment.play(share, slice, &is_decided),
-        || play_first(system, share, slice, &is_decided),
+        || environment.play(share, slice, &is_decided, deadline),
+        || play_first(system, share, slice, &is_decided, deadline),
     );
     match first? {
         Some(win) => Ok(Some(win)),
@@ -158,13 +163,14 @@ fn play_both<'a, R: Threads>(
 }
 
 /// A round of the side that counts first, and says whether it decided the round.
-fn play_first<'a>(
+fn play_first<'a, D: Deadline>(
     rounds: &mut Rounds<'a>,
     share: Budget,
     slice: u64,
     is_decided: &AtomicBool,
+    deadline: &D,
 ) -> Result<Option<Win<'a>>, AllocError> {
-    let outcome = rounds.play(share, slice, &AtomicBool::new(false));
+    let outcome = rounds.play(share, slice, &AtomicBool::new(false), deadline);
     if !matches!(outcome, Ok(None)) {
         is_decided.store(true, Ordering::SeqCst);
     }

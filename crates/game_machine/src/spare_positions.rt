@@ -5,6 +5,7 @@ use game_arena::tables::{at, is_in, mark, put};
 use game_moves::{Class, Positions};
 use safety_game::{Answer, Win, WinNode};
 use std::alloc::{AllocError, Global};
+use time_limits::Deadline;
 
 /// Another answer to a class of a node.
 #[derive(Drop)]
@@ -14,11 +15,15 @@ struct Change {
     answer: Answer,
 }
 
-/// Lets positions go, those first that fewest answers lead to, as long as the game's meter has steps. On an error the win stands as far
-/// as it came.
-pub(crate) fn drop_spare(alloc: Global, win: &mut Win<'_>) -> Result<(), Stop> {
+/// Lets positions go, those first that fewest answers lead to, as long as the game's meter has steps and there is time. On an error the win
+/// stands as far as it came.
+pub(crate) fn drop_spare<D: Deadline>(
+    alloc: Global,
+    win: &mut Win<'_>,
+    deadline: &D,
+) -> Result<(), Stop> {
     for _ in 0..win.nodes.len() {
-        if !drop_once(alloc, win)? {
+        if !drop_once(alloc, win, deadline)? {
             break;
         }
     }
@@ -26,12 +31,15 @@ pub(crate) fn drop_spare(alloc: Global, win: &mut Win<'_>) -> Result<(), Stop> {
 }
 
 /// Tries each position once. Whether one went.
-fn drop_once(alloc: Global, win: &mut Win<'_>) -> Result<bool, Stop> {
+fn drop_once<D: Deadline>(alloc: Global, win: &mut Win<'_>, deadline: &D) -> Result<bool, Stop> {
     let order = by_uses(alloc, win)?;
     let mut kept = vec![in alloc; false; win.nodes.len()]?;
     mark_reached(win, &mut kept)?;
     let mut goes = false;
     for number in order {
+        if deadline.is_over() {
+            return Err(Stop::Steps);
+        }
         if is_in(&kept, number) && drop_one(alloc, win, &mut kept, number)? {
             mark_reached(win, &mut kept)?;
             goes = true;

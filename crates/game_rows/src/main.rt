@@ -1,5 +1,5 @@
 //! Rows of texts that are played: on standard input a heading `==== STEPS GATES SIDES SLIP NAME` and then the text; on standard output the
-//! heading and who wins within so many steps, whether the circuit passes the test of `tests`, the states of the machine, and whether the
+//! heading and who wins within so many steps, whether the circuit passes product_test, the states of the machine, and whether the
 //! circuit has few gates: at most six where the heading names five. What the stored run must print is what the search for machines of
 //! each size answers, and GATES are those of its circuit. Where the games are told a SLIP, so that a side wins that can't, its circuit is
 //! rejected. Where a line `---- circuit` and a circuit stand behind the text, its machine is made smaller instead, and what is left is
@@ -9,7 +9,6 @@
 mod headings;
 mod plays;
 mod reductions;
-mod tests;
 
 use plays::push_row;
 use std::io::{BufRead, Write};

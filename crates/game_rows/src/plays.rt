@@ -2,13 +2,14 @@
 
 use crate::headings::{Heading, Sides, Slip};
 use crate::reductions::push_reduction;
-use crate::tests::passes;
 use game_machine::{Budget, Contest, Found, Outcome, find};
 use letters_and_lassos::Side;
 use machine_model::{Automaton, Counts, Edge, Problem};
+use product_test::passes;
 use spec_problems::{TextProblems, text_problems};
 use std::alloc::{AllocError, Global};
 use std::thread::Threads;
+use time_limits::NoDeadline;
 
 const MOST_POSITIONS: usize = 100_000;
 
@@ -46,8 +47,8 @@ fn push_play<R: Threads>(
     let system = told(alloc, text, Side::System, heading.slip)?;
     let environment = told(alloc, text, Side::Environment, heading.slip)?;
     let contest = contest(text, heading, system.as_ref(), environment.as_ref());
-    let by_one = find(rt, alloc, contest, budget(heading), 1)?;
-    let by_two = find(rt, alloc, contest, budget(heading), 2)?;
+    let by_one = find(rt, alloc, contest, budget(heading), 1, &NoDeadline)?;
+    let by_two = find(rt, alloc, contest, budget(heading), 2, &NoDeadline)?;
     if !are_alike(&by_one, &by_two) {
         return out.extend_from_slice(b"two workers find something else\n");
     }

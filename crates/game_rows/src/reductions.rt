@@ -1,16 +1,17 @@
 //! A text with a circuit, whose machine is made smaller.
 
 use crate::headings::{Heading, Sides, Slip};
-use crate::tests::passes;
 use aiger_text::{Circuit, read_circuit};
 use annotation_maker::Maker;
 use game_machine::{GivenTable, table_circuit};
 use letters_and_lassos::{Kind, Side};
 use machine_model::{Counts, Problem};
 use machine_reductions::{Reduction, with_fewer_states};
+use product_test::passes;
 use solve_ground::{SolveText, solve_text};
 use spec_problems::{TextProblems, text_problems};
 use std::alloc::{AllocError, Global};
+use time_limits::NoDeadline;
 
 /// The line between a text and a circuit.
 const MARK: &[u8] = b"---- circuit\n";
@@ -122,6 +123,7 @@ fn reduced(
         maker,
         kind_told(problem, heading.slip),
         heading.steps,
+        &NoDeadline,
     )
 }
 

@@ -9,6 +9,7 @@ use signal_nets::{Net, Problem};
 use small_circuits::{Effort, circuit_of, reached_by, small_circuit};
 use state_codes::{code_bits, problem_of};
 use std::alloc::{AllocError, Global};
+use time_limits::NoDeadline;
 
 const STEPS: u64 = 100_000_000;
 
@@ -35,7 +36,14 @@ fn push_small(
     let made = match heading.slip {
         Slip::None | Slip::Kind => {
             let effort = Effort { steps: STEPS };
-            small_circuit(alloc, circuit, heading.side, heading.kind, effort)?
+            small_circuit(
+                alloc,
+                circuit,
+                heading.side,
+                heading.kind,
+                effort,
+                &NoDeadline,
+            )?
         }
         slip => circuit_with(alloc, circuit, slip)?,
     };

@@ -12,7 +12,7 @@ use names_and_numbers::Name;
 
 /// The letter that a line states, if it states one.
 pub(crate) fn letter_of(line: &[u8], names: &[Name]) -> Option<Letter>
-    requires { length names.now ≤ 16 }
+    requires { length names.now ≤ 64 }
     ensures { result ≡ letter_of names.now line.now }
 {
     if line == b"-".as_slice() {
@@ -23,7 +23,7 @@ pub(crate) fn letter_of(line: &[u8], names: &[Name]) -> Option<Letter>
 
 /// The letter with the signals of the names in a line.
 fn all_named(line: &[u8], names: &[Name]) -> Option<Letter>
-    requires { length names.now ≤ 16 }
+    requires { length names.now ≤ 64 }
     ensures { result ≡ with_all_named names.now (parts_at 32 line.now) no_signals }
 {
     let mut letter = Letter(0);
@@ -37,7 +37,7 @@ fn all_named(line: &[u8], names: &[Name]) -> Option<Letter>
 
 /// The letter with the signal of that name, which it must not have yet.
 fn with_named(letter: Letter, name: &[u8], names: &[Name]) -> Option<Letter>
-    requires { length names.now ≤ 16 }
+    requires { length names.now ≤ 64 }
     ensures { result ≡ with_named names.now letter name.now }
 {
     let signal = signal_of(name, names)?;
@@ -49,9 +49,9 @@ fn with_named(letter: Letter, name: &[u8], names: &[Name]) -> Option<Letter>
 
 /// The first signal of that name.
 fn signal_of(name: &[u8], names: &[Name]) -> Option<u32>
-    requires { length names.now ≤ 16 }
+    requires { length names.now ≤ 64 }
     ensures place { result ≡ position (bytes_eq name.now) names.now }
-    ensures few { IfSome result (λ signal. signal < 16) }
+    ensures few { IfSome result (λ signal. signal < 64) }
 {
     let place = place_of(name, names)?;
     Some(place as u32)

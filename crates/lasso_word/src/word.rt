@@ -40,7 +40,7 @@ impl<T: Drop> From<AllocFailed<T>> for WordFault {
 /// them, or `-` for none. Refused at the first line that isn't of this form, where a line is missing at the next one, and
 /// at the 10,001st letter.
 pub fn read_word(alloc: Global, bytes: &[u8], names: &[Name]) -> Result<Lasso, WordFault>
-    requires { length names.now ≤ 16 }
+    requires { length names.now ≤ 64 }
     ensures word { IfOk result (λ lasso. StatesWord bytes.now names.now lasso) }
     ensures bad { (n : ℕ) → result ≡ Err (BadLine n) → IsFirstBadWordLine bytes.now names.now n }
 {
@@ -52,7 +52,7 @@ pub fn read_word(alloc: Global, bytes: &[u8], names: &[Name]) -> Result<Lasso, W
 
 /// What the lines behind the first one state.
 fn read_lines(alloc: Global, bytes: &[u8], names: &[Name]) -> Result<Lasso, WordFault>
-    requires named { length names.now ≤ 16 }
+    requires named { length names.now ≤ 64 }
     requires short { length bytes.now < 2 ^ 64 - 2 }
     ensures ok { IfOk result (λ lasso. read_lines names.now bytes.now ≡ word lasso) }
     ensures bad { (n : ℕ) → result ≡ Err (BadLine n) → read_lines names.now bytes.now ≡ bad_line n }
@@ -103,7 +103,7 @@ impl SoFar {
 
     /// Takes one more line, if it may stand here.
     fn add_line(&mut self, line: &[u8], names: &[Name]) -> Result<bool, AllocError>
-        requires { length names.now ≤ 16 }
+        requires { length names.now ≤ 64 }
         ensures { IfOk result (λ fits. MatchBool fits (continued names.now self.old line.now ≡ Some self.new) (continued names.now self.old line.now ≡ None)) }
     {
         if self.ring_at.is_none() && line == b"ring".as_slice() {

@@ -7,6 +7,7 @@ use std::alloc::{AllocError, Global};
 use std::sync::Wait;
 use std::thread::Threads;
 use text_limits::LARGE_LIMITS;
+use time_limits::Deadline;
 
 /// How much is tried.
 #[derive(Clone, Copy, Debug)]
@@ -32,6 +33,8 @@ pub enum Ended {
     Found(u32, Option<SmallMachine>),
     /// Memory ran out at this size.
     NoMemory(u32),
+    /// The time was over at this size.
+    Time(u32),
 }
 
 /// The logs of the sizes from 1 up that are refuted, each closed, and why there is no further one.
@@ -104,8 +107,13 @@ impl<'a, 'b> Sizes<'a, 'b> {
         self.trial().first_count().unwrap_or(u64::MAX)
     }
 
-    /// Tries the next size, if there is one. Each worker passes the gate at each turn.
-    pub fn step<R: Threads + Wait + Sync, G: Gate + Sync>(&mut self, rt: &R, gate: &G) {
+    /// Tries the next size, if there is one. Each worker passes the gate, and asks for the time, at each turn.
+    pub fn step<R: Threads + Wait + Sync, G: Gate + Sync, D: Deadline + Sync>(
+        &mut self,
+        rt: &R,
+        gate: &G,
+        deadline: &D,
+    ) {
         if self.is_ended() {
             return;
         }
@@ -114,11 +122,12 @@ impl<'a, 'b> Sizes<'a, 'b> {
             return;
         }
         let size = self.next;
-        let end = match self.trial().tried(rt, gate) {
+        let end = match self.trial().tried(rt, gate, deadline) {
             Ok(Tried::Refuted(log)) => self.keep(log),
             Ok(Tried::Found(machine)) => Some(Ended::Found(size, machine)),
             Ok(Tried::Full) => Some(Ended::Full(size)),
             Ok(Tried::TooLarge) => Some(Ended::TooLarge(size)),
+            Ok(Tried::Time) => Some(Ended::Time(size)),
             Err(_) => Some(Ended::NoMemory(size)),
         };
         self.ended = end;
@@ -167,22 +176,23 @@ impl<'a, 'b> Sizes<'a, 'b> {
     }
 }
 
-/// Refutes the sizes 1, 2 and so on below a known one, as far as the effort goes. Where memory runs out, the logs so far are given. Each worker passes the
-/// gate at each turn.
-pub fn refute_sizes<R: Threads + Wait + Sync, G: Gate + Sync>(
+/// Refutes the sizes 1, 2 and so on below a known one, as far as the effort goes. Where memory runs out, or the time is over, the logs so far
+/// are given. Each worker passes the gate, and asks for the time, at each turn.
+pub fn refute_sizes<R: Threads + Wait + Sync, G: Gate + Sync, D: Deadline + Sync>(
     rt: &R,
     alloc: Global,
     ground: &Ground<'_>,
     known: u32,
     effort: Effort,
     gate: &G,
+    deadline: &D,
 ) -> Refutations {
     let mut sizes = Sizes::new(alloc, ground, known, effort);
     for _ in 0..LARGE_LIMITS.machine + 1 {
         if sizes.is_ended() {
             break;
         }
-        sizes.step(rt, gate);
+        sizes.step(rt, gate, deadline);
     }
     sizes.into_refutations()
 }

@@ -18,6 +18,7 @@ use solved_text::SizeLog;
 use std::alloc::{AllocError, Global};
 use std::sync::Wait;
 use std::thread::Threads;
+use time_limits::Deadline;
 
 /// A machine that was found, which is still to be tested.
 #[derive(Drop)]
@@ -35,6 +36,8 @@ pub(crate) enum Tried {
     Found(Option<SmallMachine>),
     Full,
     TooLarge,
+    /// The time is over.
+    Time,
 }
 
 /// A size that is tried.
@@ -64,14 +67,18 @@ const LISTS: u32 = MOST_ROUNDS + 2;
 
 impl Trial<'_, '_> {
     /// Tries a size over few letters, over more and more of them where these leave gaps, and then over all.
-    pub(crate) fn tried<R: Threads + Wait + Sync, G: Gate + Sync>(
+    pub(crate) fn tried<R: Threads + Wait + Sync, G: Gate + Sync, D: Deadline + Sync>(
         &self,
         rt: &R,
         gate: &G,
+        deadline: &D,
     ) -> Result<Tried, AllocError> {
         let mut chosen = Chosen::first(self.alloc, self.ground.reads())?;
         for _ in 0..LISTS {
-            match self.tried_over(rt, gate, chosen)? {
+            if deadline.is_over() {
+                return Ok(Tried::Time);
+            }
+            match self.tried_over(rt, gate, deadline, chosen)? {
                 Next::Ends(tried) => return Ok(tried),
                 Next::GoesOn(next) => chosen = next,
             }
@@ -85,10 +92,11 @@ impl Trial<'_, '_> {
         self.ground.count(self.size, &chosen.letters).ok()?
     }
 
-    fn tried_over<R: Threads + Wait + Sync, G: Gate + Sync>(
+    fn tried_over<R: Threads + Wait + Sync, G: Gate + Sync, D: Deadline + Sync>(
         &self,
         rt: &R,
         gate: &G,
+        deadline: &D,
         chosen: Chosen,
     ) -> Result<Next, AllocError> {
         let Some(base) = self.base_over(&chosen.letters)? else {
@@ -97,6 +105,7 @@ impl Trial<'_, '_> {
         let passage = Passage {
             gate,
             log: self.log_number(),
+            deadline,
         };
         match search_clauses(rt, self.alloc, &base, self.entries, self.workers, passage)? {
             Worked::Refuted(entries) => {
@@ -104,6 +113,7 @@ impl Trial<'_, '_> {
                 Ok(Next::Ends(Tried::Refuted(log)))
             }
             Worked::Full => Ok(Next::Ends(Tried::Full)),
+            Worked::Time => Ok(Next::Ends(Tried::Time)),
             Worked::Met(values) => self.after_model(chosen, &values),
         }
     }

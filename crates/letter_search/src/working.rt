@@ -12,6 +12,7 @@ use refutation_log::{Entry, LogState, Turn};
 use std::alloc::{AllocError, Global};
 use std::sync::{Mutex, Wait};
 use std::thread::{self, Threads};
+use time_limits::Deadline;
 
 /// How a search over base clauses ended.
 #[derive(Drop)]
@@ -22,6 +23,8 @@ pub(crate) enum Worked {
     Met(Assignment),
     /// The log has as many entries as it may have.
     Full,
+    /// The time is over.
+    Time,
 }
 
 /// What the workers share: the log, and values that meet the base clauses once a worker has some.
@@ -65,7 +68,10 @@ impl Shared {
         if log.is_closed() {
             return Ok(Worked::Refuted(log.into_entries()?));
         }
-        Ok(Worked::Full)
+        if log.is_full() {
+            return Ok(Worked::Full);
+        }
+        Ok(Worked::Time)
     }
 }
 
@@ -100,29 +106,30 @@ fn has_other_variable(vars: u32, lits: &[Lit]) -> bool
     lits.iter().any(|lit| lit.var() > vars)
 }
 
-/// The gate that workers pass, and the number of their log.
+/// The gate that workers pass, the number of their log, and when they end.
 #[derive_where(Clone, Copy)]
-pub(crate) struct Passage<'a, G: Gate> {
+pub(crate) struct Passage<'a, 'b, G: Gate, D: Deadline> {
     pub(crate) gate: &'a G,
     pub(crate) log: u32,
+    pub(crate) deadline: &'b D,
 }
 
-impl<G: Gate> Passage<'_, G> {
+impl<G: Gate, D: Deadline> Passage<'_, '_, G, D> {
     /// The caller passes as the first worker.
     fn pass(&self, number: u32, moment: Moment) {
         self.gate.pass(number.max(1), self.log, moment);
     }
 }
 
-/// Searches until some values meet the base clauses, or the log is closed or full. One worker is the caller itself; more have a thread
-/// each, and the caller does what they leave. Each passes the gate at each of its turns.
-pub(crate) fn search_clauses<R: Threads + Wait + Sync, G: Gate + Sync>(
+/// Searches until some values meet the base clauses, or the log is closed or full, or the time is over. One worker is the caller itself; more
+/// have a thread each, and the caller does what they leave. Each passes the gate, and asks for the time, at each of its turns.
+pub(crate) fn search_clauses<R: Threads + Wait + Sync, G: Gate + Sync, D: Deadline + Sync>(
     rt: &R,
     alloc: Global,
     base: &Cnf,
     most: Option<u64>,
     workers: u32,
-    passage: Passage<'_, G>,
+    passage: Passage<'_, '_, G, D>,
 ) -> Result<Worked, AllocError>
     requires { IsFormula base.now.vars base.now.clauses.items }
 {
@@ -138,13 +145,13 @@ pub(crate) fn search_clauses<R: Threads + Wait + Sync, G: Gate + Sync>(
 }
 
 /// Lets so many workers search, each in a thread of its own where one can be made.
-fn run_workers<R: Threads + Wait + Sync, G: Gate + Sync>(
+fn run_workers<R: Threads + Wait + Sync, G: Gate + Sync, D: Deadline + Sync>(
     rt: &R,
     alloc: Global,
     base: &Cnf,
     shared: &Mutex<Shared>,
     workers: u32,
-    passage: Passage<'_, G>,
+    passage: Passage<'_, '_, G, D>,
 ) -> Result<(), AllocError>
     requires { IsFormula base.now.vars base.now.clauses.items }
 {
@@ -162,14 +169,14 @@ fn run_workers<R: Threads + Wait + Sync, G: Gate + Sync>(
     Ok(())
 }
 
-/// The work of one worker, until the clauses are decided.
-fn work<R: Wait, G: Gate>(
+/// The work of one worker, until the clauses are decided or the time is over.
+fn work<R: Wait, G: Gate, D: Deadline>(
     rt: &R,
     alloc: Global,
     base: &Cnf,
     shared: &Mutex<Shared>,
     number: u32,
-    passage: Passage<'_, G>,
+    passage: Passage<'_, '_, G, D>,
 ) -> Result<(), AllocError>
     requires { IsFormula base.now.vars base.now.clauses.items }
 {
@@ -177,6 +184,9 @@ fn work<R: Wait, G: Gate>(
     let mut worker = Worker::new(alloc, number, base.vars)?;
     let mut entries = Vec::new(alloc);
     for _ in rt.forever() {
+        if passage.deadline.is_over() {
+            return Ok(());
+        }
         if read(rt, shared, base.vars, &mut entries)? {
             return Ok(());
         }

@@ -10,6 +10,7 @@ use annotation_maker::{Limit, Maker, MetStates, Stop};
 use letters_and_lassos::Kind;
 use machine_model::Row;
 use std::alloc::{AllocError, Global};
+use time_limits::Deadline;
 
 /// A machine with fewer states, which is still to be tested.
 #[derive(Drop)]
@@ -58,12 +59,13 @@ const PHASES: [(Phase, u64); 8] = [
 const MOST_ROUNDS: u32 = 100;
 
 /// A machine that does the same for its side as the circuit's, with fewer states. None where none is found within so many steps, or a limit is
-/// passed. The kind is that of the circuit's machine.
-pub fn with_fewer_states(
+/// passed. The kind is that of the circuit's machine. Once the time is over, which is asked at each round, it is what was found by then.
+pub fn with_fewer_states<D: Deadline>(
     alloc: Global,
     maker: Maker<'_>,
     kind: Kind,
     steps: u64,
+    deadline: &D,
 ) -> Result<Option<Reduction>, AllocError> {
     let Some(machine) = machine_of(alloc, maker.circuit, maker.side)? else {
         return Ok(None);
@@ -73,16 +75,19 @@ pub fn with_fewer_states(
     }
     let met = match MetStates::start(alloc, maker.formulas, maker.form) {
         Ok(met) => met,
-        Err(Stop::Passed(_)) => return Ok(None),
+        Err(Stop::Passed(_) | Stop::Time) => return Ok(None),
         Err(Stop::NoMemory) => return Err(AllocError),
     };
-    reduced(Reducer::new(alloc, machine, met, kind, steps)?)
+    reduced(Reducer::new(alloc, machine, met, kind, steps)?, deadline)
 }
 
-fn reduced(mut reducer: Reducer<'_>) -> Result<Option<Reduction>, AllocError> {
+fn reduced<D: Deadline>(
+    mut reducer: Reducer<'_>,
+    deadline: &D,
+) -> Result<Option<Reduction>, AllocError> {
     for (phase, hundredths) in PHASES {
         reducer.meter.begin(hundredths);
-        reducer.rounds_of(phase)?;
+        reducer.rounds_of(phase, deadline)?;
     }
     let (states, rows) = reducer.machine.table(reducer.alloc)?;
     if states < reducer.machine.count() {
@@ -115,11 +120,14 @@ impl<'a> Reducer<'a> {
     }
 
     /// Tries what a phase tries until it brings nothing, or its steps are used up.
-    fn rounds_of(&mut self, phase: Phase) -> Result<(), AllocError> {
+    fn rounds_of<D: Deadline>(&mut self, phase: Phase, deadline: &D) -> Result<(), AllocError> {
         for _ in 0..MOST_ROUNDS {
+            if deadline.is_over() {
+                return Ok(());
+            }
             match self.round_of(phase) {
                 Ok(true) => {}
-                Ok(false) | Err(Stop::Passed(_)) => return Ok(()),
+                Ok(false) | Err(Stop::Passed(_) | Stop::Time) => return Ok(()),
                 Err(Stop::NoMemory) => return Err(AllocError),
             }
         }

@@ -7,6 +7,7 @@
 
 mod assumptions;
 mod formulas;
+mod leaves;
 mod meters;
 mod remarks;
 mod rings;

@@ -2,11 +2,10 @@
 
 use crate::assumptions::{Assumptions, assumptions_of};
 use crate::meters::Meter;
-use crate::runs::runs_on_table;
+use crate::runs::{automaton_of, runs_on_table};
 use crate::silence::{Silence, unless_silent};
 use crate::tables::Table;
 use aiger_text::Circuit;
-use annotation_maker::MetStates;
 use letters_and_lassos::Kind;
 use outcome_news::{Owed, Remarks};
 use std::alloc::{AllocError, Global};
@@ -65,7 +64,7 @@ fn are_broken<D: Deadline>(
     {
         return Ok(false);
     }
-    let mut automaton = MetStates::start(alloc, &assumptions.formulas, assumptions.form)?;
+    let mut automaton = automaton_of(alloc, &assumptions.formulas, assumptions.form)?;
     let places = runs_on_table(alloc, table, &mut automaton, meter)?;
     Ok(!places.have_rejecting_ring(alloc)?)
 }

@@ -3,9 +3,8 @@
 use crate::assumptions::normal_of;
 use crate::formulas::promised;
 use crate::meters::Meter;
-use crate::runs::all_runs;
+use crate::runs::{all_runs, automaton_of};
 use crate::silence::{Silence, unless_silent};
-use annotation_maker::MetStates;
 use ltl_formula::{FormulaId, Formulas};
 use std::alloc::{AllocError, Global};
 use text_limits::LARGE_LIMITS;
@@ -13,8 +12,8 @@ use time_limits::NoDeadline;
 use tlsf_expand::{Spec, expand};
 use tlsf_reader::read;
 
-/// The most states and edges of an automaton that is looked at.
-const MOST_EDGES: u64 = 200_000;
+/// The most steps that are taken for the automaton of a formula: for each state as many as its edges were compared.
+const MOST_STEPS: u64 = 1 << 25;
 
 /// Which parts of a text hold on no word at all.
 #[derive(Clone, Copy, Debug, Default, PartialEq, Eq)]
@@ -91,8 +90,8 @@ pub fn is_never_true(
 }
 
 fn never_true(alloc: Global, formulas: &Formulas, form: FormulaId) -> Result<bool, Silence> {
-    let mut meter = Meter::new(&NoDeadline, MOST_EDGES);
-    let mut automaton = MetStates::start(alloc, formulas, form)?;
+    let mut meter = Meter::new(&NoDeadline, MOST_STEPS);
+    let mut automaton = automaton_of(alloc, formulas, form)?;
     let places = all_runs(alloc, &mut automaton, &mut meter)?;
     Ok(!places.have_rejecting_ring(alloc)?)
 }

@@ -28,7 +28,7 @@ impl<T: Drop> From<AllocFailed<T>> for Silence {
 impl From<Stop> for Silence {
     fn from(stop: Stop) -> Silence {
         match stop {
-            Stop::Passed(_) => Silence::Unknown,
+            Stop::Passed(_) | Stop::Time => Silence::Unknown,
             Stop::NoMemory => Silence::NoMemory,
         }
     }

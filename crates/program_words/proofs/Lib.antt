@@ -3,4 +3,6 @@ pub mod Reading
 pub mod Matching
 pub mod PlainSteps
 pub mod PlainWalks
+pub mod PlainCommands
+pub mod PlainFlags
 pub mod PlainLaws

@@ -1,5 +1,5 @@
 -- The command line that `clap` is set up with (this project's own): a subcommand for each command, with its required
--- names or its number, and options that take one value each; `verify` has a flag. Nothing else is set, and there is no help.
+-- names or its number, and options that take one value each; `expand`, `lasso` and `verify` have flags. Nothing else is set, and there is no help.
 use Rattle.std.specs.Prelude.{◌≡◌, List, [], ◌∷◌, Some, true, false, codes}
 use Rattle.clap.specs.Walk.{Rule, Text}
 use Rattle.clap.specs.declared.builder.action.ArgAction.TheVariants.{SetTrue}
@@ -47,6 +47,13 @@ counts = option (codes "counts")
 abbrev pub kind : Rule
 kind = option (codes "kind")
 
+abbrev pub seconds : Rule
+seconds = option (codes "seconds")
+
+-- the flag for a text as `solve` takes it
+abbrev pub as_solved : Rule
+as_solved = flag (codes "solve")
+
 -- a command that searches for a machine of one text
 abbrev pub searching : Text → Shape
 searching name = command name (spec ∷ most ∷ entries ∷ workers ∷ counts ∷ kind ∷ [])
@@ -58,10 +65,10 @@ abbrev pub check : Shape
 check = command (codes "check") (spec ∷ required (codes "certificate") ∷ [])
 
 abbrev pub expand : Shape
-expand = command (codes "expand") (spec ∷ [])
+expand = command (codes "expand") (spec ∷ as_solved ∷ kind ∷ flag (codes "nodes") ∷ [])
 
 abbrev pub lasso : Shape
-lasso = command (codes "lasso") (spec ∷ required (codes "word") ∷ [])
+lasso = command (codes "lasso") (spec ∷ required (codes "word") ∷ as_solved ∷ kind ∷ [])
 
 abbrev pub gen : Shape
 gen = command (codes "gen") (clients ∷ [])
@@ -70,16 +77,16 @@ abbrev pub bench : Shape
 bench = command (codes "bench") (clients ∷ workers ∷ [])
 
 abbrev pub verify : Shape
-verify = command (codes "verify") (spec ∷ required (codes "circuit") ∷ flag (codes "unrealizable") ∷ [])
+verify = command (codes "verify") (spec ∷ required (codes "circuit") ∷ kind ∷ flag (codes "unrealizable") ∷ [])
 
 abbrev pub core : Shape
 core = searching (codes "core")
 
 abbrev pub batch : Shape
-batch = command (codes "batch") (optional (codes "list") ∷ option (codes "solve") ∷ most ∷ entries ∷ workers ∷ counts ∷ kind ∷ [])
+batch = command (codes "batch") (optional (codes "list") ∷ option (codes "solve") ∷ most ∷ entries ∷ workers ∷ counts ∷ kind ∷ seconds ∷ [])
 
 abbrev pub solve : Shape
-solve = command (codes "solve") (spec ∷ most ∷ entries ∷ workers ∷ kind ∷ [])
+solve = command (codes "solve") (spec ∷ most ∷ entries ∷ workers ∷ kind ∷ seconds ∷ [])
 
 abbrev pub program : App
 program = record {

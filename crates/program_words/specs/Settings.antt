@@ -1,5 +1,5 @@
 -- What the words of a command line ask for (this project's own).
-use Rattle.std.specs.Prelude.{◌==◌, ◌≤◌, ℕ, false, IfSome, is_some, List, Option, Some, None, codes, length, option_map, option_and_then, if◌then◌else◌}
+use Rattle.std.specs.Prelude.{◌==◌, ◌≤◌, ℕ, Bool, false, IfSome, is_some, List, Option, Some, None, codes, length, option_map, option_and_then, if◌then◌else◌}
 use Rattle.std.specs.Option.{option_map_or}
 use Rattle.std.specs.Str.{bytes_eq}
 use Rattle.letters_and_lassos.specs.declared.kinds.Kind.{Kind}
@@ -17,26 +17,30 @@ use Rattle.program_words.specs.declared.settings.Settings.TheVariants as setting
 use Rattle.program_words.specs.CommandLine.{program}
 use Rattle.program_words.specs.Numbers.{number_in}
 
--- how far smaller machines are refuted: at most so many sizes, where that is given, with at most so many entries each
+-- how far smaller machines are refuted: at most so many sizes, where that is given, with at most so many entries each; and for how many seconds
+-- `solve` works at a text, where that is given
 pub record Refutations : Type 0 where
   pub max : Option ℕ
   pub entries : Option ℕ
   pub workers : ℕ
+  pub seconds : Option ℕ
 
 -- what is done with each text of a list: what `synth` does, or what `solve` does
 pub data EachText : Type 0 where
   searched : Search → EachText
   solved : Option Kind → Refutations → EachText
 
--- a command with its names, its number and its options
+-- a command with its names, its number and its options; `expand` and `lasso` have two forms, the second for a text as `solve` takes it
 pub data Asked : Type 0 where
   synth : Text → Search → Option Kind → Asked
   check : Text → Text → Asked
   expand : Text → Asked
+  expand_solve : Text → Option Kind → Bool → Asked
   lasso : Text → Text → Asked
+  lasso_solve : Text → Text → Option Kind → Asked
   gen : ℕ → Asked
   bench : ℕ → ℕ → Asked
-  verify : Side → Text → Text → Asked
+  verify : Side → Option Kind → Text → Text → Asked
   core : Text → Search → Option Kind → Asked
   batch : Text → EachText → Asked
   solve : Text → Option Kind → Refutations → Asked
@@ -46,14 +50,18 @@ abbrev pub asked_by : Settings → Asked
 asked_by (settings.Synth spec wanted kind) = synth spec.now wanted kind
 asked_by (settings.Check spec certificate) = check spec.now certificate.now
 asked_by (settings.Expand spec) = expand spec.now
+asked_by (settings.ExpandSolve spec kind nodes) = expand_solve spec.now kind nodes
 asked_by (settings.Lasso spec word) = lasso spec.now word.now
+asked_by (settings.LassoSolve spec word kind) = lasso_solve spec.now word.now kind
 asked_by (settings.Gen clients) = gen clients
 asked_by (settings.Bench clients workers) = bench clients workers
-asked_by (settings.Verify side spec circuit) = verify side spec.now circuit.now
+asked_by (settings.Verify side kind spec circuit) = verify side kind spec.now circuit.now
 asked_by (settings.Core spec wanted kind) = core spec.now wanted kind
 asked_by (settings.Batch list wanted) = batch list.now (searched wanted)
-asked_by (settings.SolveList list kind max entries workers) = batch list.now (solved kind (record { max = max; entries = entries; workers = workers }))
-asked_by (settings.Solve spec kind max entries workers) = solve spec.now kind (record { max = max; entries = entries; workers = workers })
+asked_by (settings.SolveList list kind max entries workers seconds) =
+    batch list.now (solved kind (record { max = max; entries = entries; workers = workers; seconds = seconds }))
+asked_by (settings.Solve spec kind max entries workers seconds) =
+    solve spec.now kind (record { max = max; entries = entries; workers = workers; seconds = seconds })
 
 -- the most states and workers of a search for a machine of one text
 abbrev pub most_alone : ℕ
@@ -77,15 +85,18 @@ pub record AreRefutationsInRange (most : ℕ) (r : Refutations) : Type 0 where
   pub entries : IfSome r.entries (λ limit. limit ≤ 250000)
   pub some_worker : 1 ≤ r.workers
   pub most_workers : r.workers ≤ most
+  pub seconds : IfSome r.seconds (λ n. (1 ≤ n) × (n ≤ 86400))
 
 abbrev pub IsInRange : Asked → Type 0
 IsInRange (synth spec wanted kind) = IsSearchInRange most_alone wanted
 IsInRange (check spec certificate) = Unit {0}
 IsInRange (expand spec) = Unit {0}
+IsInRange (expand_solve spec kind nodes) = Unit {0}
 IsInRange (lasso spec word) = Unit {0}
+IsInRange (lasso_solve spec word kind) = Unit {0}
 IsInRange (gen clients) = (1 ≤ clients) × (clients ≤ 8)
 IsInRange (bench clients workers) = ((1 ≤ clients) × (clients ≤ 4)) × ((1 ≤ workers) × (workers ≤ most_alone))
-IsInRange (verify side spec circuit) = Unit {0}
+IsInRange (verify side kind spec circuit) = Unit {0}
 IsInRange (core spec wanted kind) = IsSearchInRange most_alone wanted
 IsInRange (batch list (searched wanted)) = IsSearchInRange most_in_batch wanted
 IsInRange (batch list (solved kind refutations)) = AreRefutationsInRange most_in_batch refutations
@@ -132,9 +143,17 @@ kind_in text = if bytes_eq text (codes "mealy") then Some (Some Mealy)
 abbrev pub kind_asked : Given → Option (Option Kind)
 kind_asked given = option_map_or kind_in (given (codes "kind")) (Some None)
 
--- which side a circuit plays: `clap` gives the text `true` for a flag that is there, and else `false`
+-- for how many seconds `solve` works at a text, where that is given
+abbrev pub seconds_asked : Given → Option (Option ℕ)
+seconds_asked given = option_map_or (λ text. option_map Some (number_in 1 86400 text)) (given (codes "seconds")) (Some None)
+
+-- whether a flag is there: `clap` gives the text `true` for it then, and else `false`
+abbrev pub flag_asked : Text → Given → Bool
+flag_asked id given = option_map_or (λ text. bytes_eq text (codes "true")) (given id) false
+
+-- which side a circuit plays
 abbrev pub side_asked : Given → Side
-side_asked given = if option_map_or (λ text. bytes_eq text (codes "true")) (given (codes "unrealizable")) false then Environment else System
+side_asked given = if flag_asked (codes "unrealizable") given then Environment else System
 
 abbrev pub counts_in : Text → Option Counts
 counts_in text = if bytes_eq text (codes "whole") then Some Whole
@@ -151,9 +170,9 @@ search_asked most given =
 
 abbrev pub refutations_asked : ℕ → Given → Option Refutations
 refutations_asked most given =
-    option_and_then (λ max. option_and_then (λ entries. option_map (λ workers.
-    record { max = max; entries = entries; workers = workers })
-    (worker_count most given)) (refuted_limit given)) (refuted_count given)
+    option_and_then (λ max. option_and_then (λ entries. option_and_then (λ workers. option_map (λ seconds.
+    record { max = max; entries = entries; workers = workers; seconds = seconds })
+    (seconds_asked given)) (worker_count most given)) (refuted_limit given)) (refuted_count given)
 
 -- ---- each command
 
@@ -166,12 +185,32 @@ abbrev pub check_asked : Given → Option Asked
 check_asked given =
     option_and_then (λ spec. option_map (check spec) (given (codes "certificate"))) (given (codes "spec"))
 
+-- without `--solve` neither a kind nor the list of formulas is asked for
+abbrev pub plain_expand_asked : Given → Option Asked
+plain_expand_asked given =
+    if is_some (given (codes "kind")) then None
+    else if flag_asked (codes "nodes") given then None
+    else option_map expand (given (codes "spec"))
+
+abbrev pub expand_solve_asked : Given → Option Asked
+expand_solve_asked given =
+    option_and_then (λ spec. option_map (λ kind. expand_solve spec kind (flag_asked (codes "nodes") given)) (kind_asked given)) (given (codes "spec"))
+
 abbrev pub expand_asked : Given → Option Asked
-expand_asked given = option_map expand (given (codes "spec"))
+expand_asked given = if flag_asked (codes "solve") given then expand_solve_asked given else plain_expand_asked given
+
+-- nor is a kind here
+abbrev pub plain_lasso_asked : Given → Option Asked
+plain_lasso_asked given =
+    if is_some (given (codes "kind")) then None
+    else option_and_then (λ spec. option_map (lasso spec) (given (codes "word"))) (given (codes "spec"))
+
+abbrev pub lasso_solve_asked : Given → Option Asked
+lasso_solve_asked given =
+    option_and_then (λ spec. option_and_then (λ word. option_map (lasso_solve spec word) (kind_asked given)) (given (codes "word"))) (given (codes "spec"))
 
 abbrev pub lasso_asked : Given → Option Asked
-lasso_asked given =
-    option_and_then (λ spec. option_map (lasso spec) (given (codes "word"))) (given (codes "spec"))
+lasso_asked given = if flag_asked (codes "solve") given then lasso_solve_asked given else plain_lasso_asked given
 
 abbrev pub gen_asked : Given → Option Asked
 gen_asked given = option_map gen (option_and_then (number_in 1 8) (given (codes "clients")))
@@ -183,17 +222,19 @@ bench_asked given =
 
 abbrev pub verify_asked : Given → Option Asked
 verify_asked given =
-    option_and_then (λ spec. option_map (verify (side_asked given) spec) (given (codes "circuit"))) (given (codes "spec"))
+    option_and_then (λ spec. option_and_then (λ circuit. option_map (λ kind. verify (side_asked given) kind spec circuit) (kind_asked given))
+    (given (codes "circuit"))) (given (codes "spec"))
 
 abbrev pub core_asked : Given → Option Asked
 core_asked given =
     option_and_then (λ spec. option_and_then (λ wanted. option_map (core spec wanted) (kind_asked given))
     (search_asked most_alone given)) (given (codes "spec"))
 
--- the texts of a list are searched as `synth` does, without another kind
+-- the texts of a list are searched as `synth` does, without another kind, and for as long as that takes
 abbrev pub search_list_asked : Given → Option Asked
 search_list_asked given =
     if is_some (given (codes "kind")) then None
+    else if is_some (given (codes "seconds")) then None
     else option_and_then (λ list. option_map (λ wanted. batch list (searched wanted)) (search_asked most_in_batch given)) (given (codes "list"))
 
 -- or solved, without another list, and without counts, since they are bounded in one way

@@ -51,7 +51,11 @@ fn check<'a>(alloc: Global) -> Result<Command<'a>, AllocError>
 fn expand<'a>(alloc: Global) -> Result<Command<'a>, AllocError>
     ensures { IfOk result (IsSetUpAs expand) }
 {
-    Command::new(alloc, "expand").arg(required(alloc, "spec"))
+    Command::new(alloc, "expand")
+        .arg(required(alloc, "spec"))?
+        .arg(flag(alloc, "solve"))?
+        .arg(option(alloc, "kind"))?
+        .arg(flag(alloc, "nodes"))
 }
 
 fn lasso<'a>(alloc: Global) -> Result<Command<'a>, AllocError>
@@ -59,7 +63,9 @@ fn lasso<'a>(alloc: Global) -> Result<Command<'a>, AllocError>
 {
     Command::new(alloc, "lasso")
         .arg(required(alloc, "spec"))?
-        .arg(required(alloc, "word"))
+        .arg(required(alloc, "word"))?
+        .arg(flag(alloc, "solve"))?
+        .arg(option(alloc, "kind"))
 }
 
 fn generate<'a>(alloc: Global) -> Result<Command<'a>, AllocError>
@@ -82,6 +88,7 @@ fn verify<'a>(alloc: Global) -> Result<Command<'a>, AllocError>
     Command::new(alloc, "verify")
         .arg(required(alloc, "spec"))?
         .arg(required(alloc, "circuit"))?
+        .arg(option(alloc, "kind"))?
         .arg(flag(alloc, "unrealizable"))
 }
 
@@ -95,7 +102,8 @@ fn batch<'a>(alloc: Global) -> Result<Command<'a>, AllocError>
         .arg(option(alloc, "entries"))?
         .arg(option(alloc, "workers"))?
         .arg(option(alloc, "counts"))?
-        .arg(option(alloc, "kind"))
+        .arg(option(alloc, "kind"))?
+        .arg(option(alloc, "seconds"))
 }
 
 fn solve<'a>(alloc: Global) -> Result<Command<'a>, AllocError>
@@ -106,7 +114,8 @@ fn solve<'a>(alloc: Global) -> Result<Command<'a>, AllocError>
         .arg(option(alloc, "max"))?
         .arg(option(alloc, "entries"))?
         .arg(option(alloc, "workers"))?
-        .arg(option(alloc, "kind"))
+        .arg(option(alloc, "kind"))?
+        .arg(option(alloc, "seconds"))
 }
 
 /// What must be given, by its place.

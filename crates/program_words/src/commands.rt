@@ -1,7 +1,7 @@
 //! The commands with their options and ranges, for whoever tells of them.
 
 use crate::ranges::{
-    MOST_ALONE, MOST_BENCHED, MOST_CLIENTS, MOST_ENTRIES, MOST_IN_BATCH, MOST_REFUTED,
+    MOST_ALONE, MOST_BENCHED, MOST_CLIENTS, MOST_ENTRIES, MOST_IN_BATCH, MOST_REFUTED, MOST_SECONDS,
 };
 use std::alloc::AllocError;
 use std::fmt::Write;
@@ -42,7 +42,7 @@ pub const COMMANDS: [Command; 11] = [
     Command {
         name: "solve",
         places: &[SPEC],
-        options: &[REFUTED, ENTRIES, WORKERS, KIND],
+        options: &[REFUTED, ENTRIES, WORKERS, KIND, SECONDS],
     },
     Command {
         name: "synth",
@@ -63,7 +63,7 @@ pub const COMMANDS: [Command; 11] = [
     Command {
         name: "expand",
         places: &[SPEC],
-        options: &[],
+        options: &[AS_SOLVED, KIND, NODES],
     },
     Command {
         name: "lasso",
@@ -74,7 +74,7 @@ pub const COMMANDS: [Command; 11] = [
                 values: Values::File,
             },
         ],
-        options: &[],
+        options: &[AS_SOLVED, KIND],
     },
     Command {
         name: "gen",
@@ -101,10 +101,13 @@ pub const COMMANDS: [Command; 11] = [
                 values: Values::File,
             },
         ],
-        options: &[Part {
-            name: "--unrealizable",
-            values: Values::Alone,
-        }],
+        options: &[
+            Part {
+                name: "--unrealizable",
+                values: Values::Alone,
+            },
+            KIND,
+        ],
     },
     Command {
         name: "core",
@@ -131,7 +134,7 @@ pub const COMMANDS: [Command; 11] = [
 pub const SOLVE_LIST: Command = Command {
     name: "batch --solve",
     places: &[LIST],
-    options: &[REFUTED, ENTRIES, SHARING, KIND],
+    options: &[REFUTED, ENTRIES, SHARING, KIND, SECONDS],
 };
 
 /// The same as its words are read: the list is the value of `--solve`.
@@ -147,6 +150,7 @@ pub const SOLVE_LIST_WORDS: Command = Command {
         ENTRIES,
         SHARING,
         KIND,
+        SECONDS,
     ],
 };
 
@@ -190,6 +194,24 @@ const WORKERS: Part = Part {
 const KIND: Part = Part {
     name: "--kind",
     values: Values::Either("mealy", "moore"),
+};
+
+/// How long `solve` works at a text.
+const SECONDS: Part = Part {
+    name: "--seconds",
+    values: Values::Number(1, MOST_SECONDS),
+};
+
+/// The text as `solve` takes it.
+const AS_SOLVED: Part = Part {
+    name: "--solve",
+    values: Values::Alone,
+};
+
+/// The list of a text's formulas.
+const NODES: Part = Part {
+    name: "--nodes",
+    values: Values::Alone,
 };
 
 const COUNTS: Part = Part {

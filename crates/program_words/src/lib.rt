@@ -14,7 +14,9 @@ mod wishes;
 mod words;
 
 pub use commands::{COMMANDS, Command, Part, SOLVE_LIST, SOLVE_LIST_WORDS, Values, command_of};
-pub use ranges::{BRIEF_ENTRIES, MOST_ALONE, MOST_ENTRIES, MOST_REFUTED, USUAL_ENTRIES};
+pub use ranges::{
+    BRIEF_ENTRIES, MOST_ALONE, MOST_ENTRIES, MOST_REFUTED, MOST_SECONDS, USUAL_ENTRIES,
+};
 pub use settings::Settings;
 pub use wishes::{Solving, Wishes, read_wishes};
 pub use words::{WordsFault, read_words};

@@ -18,6 +18,9 @@ pub const BRIEF_ENTRIES: u64 = 2_000;
 /// The most sizes that are refuted below that of a machine that is found.
 pub const MOST_REFUTED: u32 = 16;
 
+/// The most seconds that `solve` works at a text, where they are given: a day.
+pub const MOST_SECONDS: u32 = 86_400;
+
 /// The most clients of a text that is made.
 pub const MOST_CLIENTS: u32 = 8;
 

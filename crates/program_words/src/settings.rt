@@ -18,9 +18,24 @@ pub enum Settings<'a> {
     Expand {
         spec: &'a str,
     },
+    /// The text as `solve` takes it.
+    ExpandSolve {
+        spec: &'a str,
+        /// In place of the text's own kinds.
+        kind: Option<Kind>,
+        /// Whether the list of its formulas is wanted, too.
+        nodes: bool,
+    },
     Lasso {
         spec: &'a str,
         word: &'a str,
+    },
+    /// The text as `solve` takes it.
+    LassoSolve {
+        spec: &'a str,
+        word: &'a str,
+        /// In place of the text's own kinds.
+        kind: Option<Kind>,
     },
     /// Clients are 1 to 8.
     Gen {
@@ -34,6 +49,8 @@ pub enum Settings<'a> {
     Verify {
         /// The side that the circuit plays.
         side: Side,
+        /// In place of the text's own kinds.
+        kind: Option<Kind>,
         spec: &'a str,
         circuit: &'a str,
     },
@@ -60,6 +77,8 @@ pub enum Settings<'a> {
         /// The most entries of a log, if there is a limit.
         entries: Option<u64>,
         workers: u32,
+        /// For how long it works at a text, 1 to 86,400. None where that isn't limited.
+        seconds: Option<u32>,
     },
     /// Workers are 1 to 8.
     Solve {
@@ -71,5 +90,7 @@ pub enum Settings<'a> {
         /// The most entries of a log, if there is a limit.
         entries: Option<u64>,
         workers: u32,
+        /// For how long it works at a text, 1 to 86,400. None where that isn't limited.
+        seconds: Option<u32>,
     },
 }

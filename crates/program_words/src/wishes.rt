@@ -24,6 +24,8 @@ pub struct Solving {
     pub max: Option<u32>,
     /// The limit of entries of a log.
     pub entries: Option<u64>,
+    /// For how many seconds it works at a text, where that is given.
+    pub seconds: Option<u32>,
 }
 
 impl Wishes<'_> {
@@ -53,19 +55,33 @@ fn wishes_of<'a>(settings: &Settings<'a>) -> Wishes<'a> {
             is_batch: true,
             ..Wishes::NONE
         },
-        Settings::SolveList { max, entries, .. } => Wishes {
+        Settings::SolveList {
+            max,
+            entries,
+            seconds,
+            ..
+        } => Wishes {
             is_batch: true,
-            solving: Some(Solving { max, entries }),
+            solving: Some(Solving {
+                max,
+                entries,
+                seconds,
+            }),
             ..Wishes::NONE
         },
         Settings::Solve {
             spec,
             max,
             entries,
+            seconds,
             ..
         } => Wishes {
             spec: Some(spec),
-            solving: Some(Solving { max, entries }),
+            solving: Some(Solving {
+                max,
+                entries,
+                seconds,
+            }),
             ..Wishes::NONE
         },
         _ => Wishes::NONE,

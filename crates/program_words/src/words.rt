@@ -2,13 +2,13 @@ ghost use Rattle.std.specs.Prelude.{◌≡◌, ◌≢◌, Some, None, codes, if�
 ghost use Rattle.std.specs.Str.{bytes_eq};
 ghost use Rattle.letters_and_lassos.specs.declared.kinds.Side.TheVariants.{Environment, System};
 ghost use Rattle.clap.specs.Words.{first_of, found_of, rows_of, subcommand_rows_of};
-ghost use Rattle.program_words.specs.Settings.{asked_by, asked_of, batch_asked, bench_asked, check_asked, core_asked, counts_asked, counts_in, expand_asked, gen_asked, given_in, IsInRange, IsSearchInRange, kind_asked, kind_in, lasso_asked, limit_in, limit_or, number_or, refuted_count, refuted_limit, search_asked, search_list_asked, settings_of, side_asked, solve_asked, solve_list_asked, synth_asked, verify_asked};
+ghost use Rattle.program_words.specs.Settings.{asked_by, asked_of, batch_asked, bench_asked, check_asked, core_asked, counts_asked, counts_in, expand_asked, expand_solve_asked, flag_asked, gen_asked, given_in, IsInRange, IsSearchInRange, kind_asked, kind_in, lasso_asked, lasso_solve_asked, limit_in, limit_or, number_or, plain_expand_asked, plain_lasso_asked, refuted_count, refuted_limit, search_asked, search_list_asked, seconds_asked, settings_of, side_asked, solve_asked, solve_list_asked, synth_asked, verify_asked};
 
 use crate::command_line::program;
 use crate::numbers::number_in;
 use crate::ranges::{
     BRIEF_ENTRIES, MOST_ALONE, MOST_BENCHED, MOST_CLIENTS, MOST_ENTRIES, MOST_IN_BATCH,
-    MOST_REFUTED, USUAL_ENTRIES,
+    MOST_REFUTED, MOST_SECONDS, USUAL_ENTRIES,
 };
 use crate::settings::Settings;
 use clap::ArgMatches;
@@ -116,6 +116,33 @@ fn expand_in<'a>(own: &ArgMatches<'a>) -> Option<Settings<'a>>
     ensures asked { option_map asked_by result ≡ expand_asked (given_in (rows_of (found_of own.now))) }
     ensures ranges { IfSome result (λ s. IsInRange (asked_by s)) }
 {
+    if is_flagged(own, "solve") {
+        expand_solve_in(own)
+    } else {
+        plain_expand_in(own)
+    }
+}
+
+fn expand_solve_in<'a>(own: &ArgMatches<'a>) -> Option<Settings<'a>>
+    ensures asked { option_map asked_by result ≡ expand_solve_asked (given_in (rows_of (found_of own.now))) }
+    ensures ranges { IfSome result (λ s. IsInRange (asked_by s)) }
+{
+    let spec = text_of(own, "spec")?;
+    let kind = kind_or(own)?;
+    let nodes = is_flagged(own, "nodes");
+    Some(Settings::ExpandSolve { spec, kind, nodes })
+}
+
+fn plain_expand_in<'a>(own: &ArgMatches<'a>) -> Option<Settings<'a>>
+    ensures asked { option_map asked_by result ≡ plain_expand_asked (given_in (rows_of (found_of own.now))) }
+    ensures ranges { IfSome result (λ s. IsInRange (asked_by s)) }
+{
+    if is_given(own, "kind") {
+        return None;
+    }
+    if is_flagged(own, "nodes") {
+        return None;
+    }
     let spec = text_of(own, "spec")?;
     Some(Settings::Expand { spec })
 }
@@ -124,6 +151,30 @@ fn lasso_in<'a>(own: &ArgMatches<'a>) -> Option<Settings<'a>>
     ensures asked { option_map asked_by result ≡ lasso_asked (given_in (rows_of (found_of own.now))) }
     ensures ranges { IfSome result (λ s. IsInRange (asked_by s)) }
 {
+    if is_flagged(own, "solve") {
+        lasso_solve_in(own)
+    } else {
+        plain_lasso_in(own)
+    }
+}
+
+fn lasso_solve_in<'a>(own: &ArgMatches<'a>) -> Option<Settings<'a>>
+    ensures asked { option_map asked_by result ≡ lasso_solve_asked (given_in (rows_of (found_of own.now))) }
+    ensures ranges { IfSome result (λ s. IsInRange (asked_by s)) }
+{
+    let spec = text_of(own, "spec")?;
+    let word = text_of(own, "word")?;
+    let kind = kind_or(own)?;
+    Some(Settings::LassoSolve { spec, word, kind })
+}
+
+fn plain_lasso_in<'a>(own: &ArgMatches<'a>) -> Option<Settings<'a>>
+    ensures asked { option_map asked_by result ≡ plain_lasso_asked (given_in (rows_of (found_of own.now))) }
+    ensures ranges { IfSome result (λ s. IsInRange (asked_by s)) }
+{
+    if is_given(own, "kind") {
+        return None;
+    }
     Some(Settings::Lasso {
         spec: text_of(own, "spec")?,
         word: text_of(own, "word")?,
@@ -153,9 +204,11 @@ fn verify_in<'a>(own: &ArgMatches<'a>) -> Option<Settings<'a>>
 {
     let spec = text_of(own, "spec")?;
     let circuit = text_of(own, "circuit")?;
+    let kind = kind_or(own)?;
     let side = side_or(own);
     Some(Settings::Verify {
         side,
+        kind,
         spec,
         circuit,
     })
@@ -165,16 +218,7 @@ fn verify_in<'a>(own: &ArgMatches<'a>) -> Option<Settings<'a>>
 fn side_or(own: &ArgMatches<'_>) -> Side
     ensures { result ≡ side_asked (given_in (rows_of (found_of own.now))) }
 {
-    match text_of(own, "unrealizable") {
-        Some(text) => side_in(text),
-        None => Side::System,
-    }
-}
-
-fn side_in(text: &str) -> Side
-    ensures { result ≡ (if bytes_eq text.now (codes "true") then Environment else System) }
-{
-    if text == "true" {
+    if is_flagged(own, "unrealizable") {
         Side::Environment
     } else {
         Side::System
@@ -209,6 +253,9 @@ fn search_list_in<'a>(own: &ArgMatches<'a>) -> Option<Settings<'a>>
     if is_given(own, "kind") {
         return None;
     }
+    if is_given(own, "seconds") {
+        return None;
+    }
     Some(Settings::Batch {
         list: text_of(own, "list")?,
         search: search_in(own, MOST_IN_BATCH)?,
@@ -228,6 +275,7 @@ fn solve_list_in<'a>(own: &ArgMatches<'a>, list: &'a str) -> Option<Settings<'a>
     let max = refuted_count(own)?;
     let entries = refuted_limit(own)?;
     let workers = number_or(own, "workers", 4, 1, MOST_IN_BATCH)?;
+    let seconds = seconds_or(own)?;
     let kind = kind_or(own)?;
     Some(Settings::SolveList {
         list,
@@ -235,6 +283,7 @@ fn solve_list_in<'a>(own: &ArgMatches<'a>, list: &'a str) -> Option<Settings<'a>
         max,
         entries,
         workers,
+        seconds,
     })
 }
 
@@ -246,6 +295,7 @@ fn solve_in<'a>(own: &ArgMatches<'a>) -> Option<Settings<'a>>
     let max = refuted_count(own)?;
     let entries = refuted_limit(own)?;
     let workers = number_or(own, "workers", 4, 1, MOST_ALONE)?;
+    let seconds = seconds_or(own)?;
     let kind = kind_or(own)?;
     Some(Settings::Solve {
         spec,
@@ -253,6 +303,7 @@ fn solve_in<'a>(own: &ArgMatches<'a>) -> Option<Settings<'a>>
         max,
         entries,
         workers,
+        seconds,
     })
 }
 
@@ -275,6 +326,17 @@ fn refuted_limit(own: &ArgMatches<'_>) -> Option<Option<u64>>
     match text_of(own, "max") {
         None => limit_or(own, BRIEF_ENTRIES),
         Some(_) => limit_or(own, USUAL_ENTRIES),
+    }
+}
+
+/// For how many seconds `solve` works at a text, where that is given.
+fn seconds_or(own: &ArgMatches<'_>) -> Option<Option<u32>>
+    ensures asked { result ≡ seconds_asked (given_in (rows_of (found_of own.now))) }
+    ensures within { IfSome result (λ seconds. IfSome seconds (λ n. (1 ≤ n) × (n ≤ 86400))) }
+{
+    match text_of(own, "seconds") {
+        None => Some(None),
+        Some(text) => Some(Some(number_in(text, 1, MOST_SECONDS)?)),
     }
 }
 
@@ -370,6 +432,16 @@ fn is_given(own: &ArgMatches<'_>, id: &str) -> bool
     ensures { result ≡ is_some (given_in (rows_of (found_of own.now)) id.now) }
 {
     text_of(own, id).is_some()
+}
+
+/// Whether a flag is there.
+fn is_flagged(own: &ArgMatches<'_>, id: &str) -> bool
+    ensures { result ≡ flag_asked id.now (given_in (rows_of (found_of own.now))) }
+{
+    match text_of(own, id) {
+        Some(text) => text == "true",
+        None => false,
+    }
 }
 
 /// The text that was given for an argument.

@@ -1,13 +1,13 @@
 //! The triple fixpoint: the greatest set of states from which the system reaches each goal again, each by the least set of those from which
 //! it gets nearer or keeps an assumption from being met (Bloem, Jobstmann, Piterman, Pnueli, Sa'ar: Synthesis of reactive(1) designs).
 
-use crate::arenas::Arena;
-use crate::rows::mark_of;
 use crate::solutions::{Loss, Reach, Solution};
 use crate::traps::{Aim, Trap};
 use conjunct_monitors::{Meter, Stop};
 use letters_and_lassos::Kind;
+use reactivity_arena::{Arena, mark_of};
 use std::alloc::{AllocError, Global};
+use time_limits::Deadline;
 
 /// How many goals there are, and assumptions that ask for something good.
 #[derive(Clone, Copy)]
@@ -30,13 +30,14 @@ struct Search<'a> {
     alloc: Global,
 }
 
-/// Who wins from each state.
-pub(crate) fn solve(
+/// Who wins from each state. At each trap it asks whether the time is over.
+pub(crate) fn solve<D: Deadline>(
     alloc: Global,
     arena: &Arena,
     kind: Kind,
     counts: Counts,
     meter: &mut Meter,
+    deadline: &D,
 ) -> Result<Solution, Stop> {
     let mut search = Search::new(alloc, arena, kind, counts)?;
     let mut stable = 0u32;
@@ -45,7 +46,7 @@ pub(crate) fn solve(
         if stable >= counts.goals || !search.solution.is_kept(0) {
             break;
         }
-        if search.take_goal(goal, meter)? {
+        if search.take_goal(goal, meter, deadline)? {
             stable = 0;
         } else {
             stable = stable.saturating_add(1);
@@ -86,13 +87,18 @@ impl<'a> Search<'a> {
     }
 
     /// Takes away the states from which a goal isn't reached, and tells whether there were any.
-    fn take_goal(&mut self, goal: u32, meter: &mut Meter) -> Result<bool, Stop> {
+    fn take_goal<D: Deadline>(
+        &mut self,
+        goal: u32,
+        meter: &mut Meter,
+        deadline: &D,
+    ) -> Result<bool, Stop> {
         for aimed in self.aimed.iter_mut() {
             *aimed = false;
         }
         let mut reaches = vec![in self.alloc; None; self.arena.states()]?;
         for level in 0..u32::MAX {
-            if !self.take_level(goal, level, &mut reaches, meter)? {
+            if !self.take_level(goal, level, &mut reaches, meter, deadline)? {
                 break;
             }
         }
@@ -103,16 +109,20 @@ impl<'a> Search<'a> {
     }
 
     /// Adds the states that get to those of lesser levels, and tells whether there were any.
-    fn take_level(
+    fn take_level<D: Deadline>(
         &mut self,
         goal: u32,
         level: u32,
         reaches: &mut [Option<Reach>],
         meter: &mut Meter,
+        deadline: &D,
     ) -> Result<bool, Stop> {
         let before = self.aimed.clone()?;
         let mut grew = false;
         for by in 0..self.solution.assumptions.max(1) {
+            if deadline.is_over() {
+                return Err(Stop::Time);
+            }
             let aim = Aim {
                 kept: &self.solution.kept,
                 aimed: &before,

@@ -1,16 +1,15 @@
 //! A game from its conjuncts to the winner's strategy.
 
-use crate::arenas::Arena;
 use crate::fixpoints::{Counts, solve};
-use crate::products::Product;
-use crate::rows::{Cast, mark_of};
 use crate::solutions::Solution;
 use crate::strategies::{Maker, Strategy};
 use crate::views::{Spot, View};
 use conjunct_monitors::{Meter, Order, Stop};
 use conjuncts::{Conjunct, Forms};
 use letters_and_lassos::Side;
+use reactivity_arena::{Arena, Cast, Product, mark_of};
 use std::alloc::{AllocError, Global};
+use time_limits::Deadline;
 
 /// What is played for.
 #[derive(Clone, Copy)]
@@ -35,15 +34,21 @@ pub struct Played {
     pub needed: Vec<bool>,
 }
 
-/// Plays a game: the strategy of who wins it.
-pub fn play(alloc: Global, players: Players<'_>, meter: &mut Meter) -> Result<Played, Stop> {
+/// Plays a game, unless the time is over before: the strategy of who wins it.
+pub fn play<D: Deadline>(
+    alloc: Global,
+    players: Players<'_>,
+    meter: &mut Meter,
+    deadline: &D,
+) -> Result<Played, Stop> {
     let mut product = players.product(alloc, meter)?;
-    let arena = Arena::new(&mut product, meter)?;
+    let arena = Arena::new(&mut product, meter, deadline)?;
     let counts = Counts {
         goals: product.goals(),
         assumptions: product.assumptions(),
     };
-    let solution = solve(alloc, &arena, players.order.kind, counts, meter)?;
+    let kind = players.order.kind;
+    let solution = solve(alloc, &arena, kind, counts, meter, deadline)?;
     let side = if solution.is_kept(0) {
         Side::System
     } else {
@@ -54,7 +59,7 @@ pub fn play(alloc: Global, players: Players<'_>, meter: &mut Meter) -> Result<Pl
         solution: &solution,
     };
     let mut maker = Maker::new(alloc, &product, &arena, view);
-    maker.make(meter)?;
+    maker.make(meter, deadline)?;
     let needed = players.needed(alloc, &product, &solution, &maker)?;
     Ok(Played {
         positions: arena.states(),

@@ -1,14 +1,13 @@
 //! The strategy of the winner, as diagrams over the letters that it reads.
 
-use crate::arenas::Arena;
-use crate::links::Link;
-use crate::products::{Fate, Product};
 use crate::views::{Choice, Spot, View};
 use conjunct_monitors::{Diagram, Diagrams, Limit, Meter, Order, Stop};
 use indexmap::IndexSet;
 use letters_and_lassos::{Kind, Side};
+use reactivity_arena::{Arena, Fate, Link, Product};
 use std::alloc::{AllocError, Global};
 use std::collections::HashMap;
+use time_limits::Deadline;
 
 /// What is written as a whole letter, and the state behind.
 #[derive(Clone, Copy, Debug, PartialEq, Eq, Hash)]
@@ -73,15 +72,22 @@ impl<'a> Maker<'a> {
         }
     }
 
-    /// Makes the states that are reached.
-    pub(crate) fn make(&mut self, meter: &mut Meter) -> Result<(), Stop> {
+    /// Makes the states that are reached. At each it asks whether the time is over.
+    pub(crate) fn make<D: Deadline>(
+        &mut self,
+        meter: &mut Meter,
+        deadline: &D,
+    ) -> Result<(), Stop> {
         self.spots.insert(Spot::At(0, 0))?;
         for place in 0..usize::MAX {
             let Some(spot) = self.spots.get_index(place).copied() else {
                 break;
             };
             if place >= MOST_STATES {
-                return Err(meter.passed(Limit::Positions));
+                return Err(meter.passed(Limit::StrategyStates));
+            }
+            if deadline.is_over() {
+                return Err(Stop::Time);
             }
             meter.take_bytes(64)?;
             let node = self.state_of(spot, meter)?;

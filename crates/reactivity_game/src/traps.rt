@@ -1,10 +1,8 @@
 //! The innermost fixpoint: the states that the system keeps away from an assumption's mark, or that reach what it aims at.
 
-use crate::arenas::Arena;
-use crate::links::Link;
-use crate::products::Fate;
 use conjunct_monitors::{Meter, Stop};
 use letters_and_lassos::Kind;
+use reactivity_arena::{Arena, Fate, Link};
 use std::alloc::{AllocError, Global};
 
 /// What the system aims at: to meet a goal within states that it keeps, or to come to states that it aims from already; and meanwhile an

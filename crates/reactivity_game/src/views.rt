@@ -1,9 +1,8 @@
 //! How the winner plays: from a state, with what it remembers, which fates it takes and what it remembers then.
 
-use crate::products::{Fate, Way};
-use crate::rows::mark_of;
 use crate::solutions::{Loss, Solution};
 use letters_and_lassos::Side;
+use reactivity_arena::{Fate, Way, mark_of};
 
 /// Where a strategy is: anywhere, since all is decided, or in a state of the product with the goal that the system aims at, or with the
 /// assumption that the environment meets next.

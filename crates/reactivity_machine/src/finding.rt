@@ -11,6 +11,7 @@ use ltl_formula::{FormulaId, Formulas};
 use names_and_numbers::Name;
 use reactivity_game::{Played, Players, Strategy, play};
 use std::alloc::{AllocError, Global};
+use time_limits::Deadline;
 
 /// What is asked: who wins the formula in normal form whose id is `normal`, and with what.
 #[derive(Clone, Copy)]
@@ -56,6 +57,8 @@ pub enum Why {
     NoShape,
     /// This limit is passed, of one monitor or of the game, when so much was used.
     Passed(Limit, Usage),
+    /// The time is over.
+    Time,
 }
 
 /// The most signals.
@@ -67,17 +70,28 @@ const MOST_TOLD: usize = 20_000;
 /// How often guarantees are left out.
 const MOST_TIMES: u32 = 3;
 
-/// Plays a formula's game within a budget. An error says that memory ran out.
-pub fn find(alloc: Global, question: Question<'_>, budget: Budget) -> Result<Outcome, AllocError> {
-    match outcome_of(alloc, question, budget) {
+/// Plays a formula's game within a budget, until the time is over. An error says that memory ran out.
+pub fn find<D: Deadline>(
+    alloc: Global,
+    question: Question<'_>,
+    budget: Budget,
+    deadline: &D,
+) -> Result<Outcome, AllocError> {
+    match outcome_of(alloc, question, budget, deadline) {
         Ok(outcome) => Ok(outcome),
         Err(Stop::NoMemory) => Err(AllocError),
         Err(Stop::NoShape) => Ok(Outcome::NoWin(Why::NoShape)),
         Err(Stop::Passed(limit, usage)) => Ok(Outcome::NoWin(Why::Passed(limit, usage))),
+        Err(Stop::Time) => Ok(Outcome::NoWin(Why::Time)),
     }
 }
 
-fn outcome_of(alloc: Global, question: Question<'_>, budget: Budget) -> Result<Outcome, Stop> {
+fn outcome_of<D: Deadline>(
+    alloc: Global,
+    question: Question<'_>,
+    budget: Budget,
+    deadline: &D,
+) -> Result<Outcome, Stop> {
     let order = question.order();
     if order.levels() > MOST_SIGNALS {
         return Err(Stop::NoShape);
@@ -90,8 +104,8 @@ fn outcome_of(alloc: Global, question: Question<'_>, budget: Budget) -> Result<O
         budget,
         alloc,
     };
-    let won = contest.won()?;
-    contest.outcome(question, won)
+    let won = contest.won(deadline)?;
+    contest.outcome(question, won, deadline)
 }
 
 /// A game that was won, over some of the guarantees.
@@ -127,9 +141,9 @@ fn count_of(names: &[Name]) -> u32 {
 
 impl Contest<'_> {
     /// The game that is won; where the environment wins, over few guarantees.
-    fn won(&mut self) -> Result<Won, Stop> {
+    fn won<D: Deadline>(&mut self, deadline: &D) -> Result<Won, Stop> {
         let all = self.conjuncts.guarantees.clone()?;
-        let played = self.play(&all, false)?;
+        let played = self.play(&all, false, deadline)?;
         let mut won = Won {
             guarantees: all.len(),
             played,
@@ -139,7 +153,7 @@ impl Contest<'_> {
         }
         let mut kept = all;
         for _ in 0..MOST_TIMES {
-            let Some(told) = self.told(&kept)? else {
+            let Some(told) = self.told(&kept, deadline)? else {
                 break;
             };
             let needed = needed_of(self.alloc, &kept, &told.needed)?;
@@ -157,21 +171,30 @@ impl Contest<'_> {
     }
 
     /// The game of the environment over some guarantees that tells which of them it needs; None where it isn't won within the budget.
-    fn told(&mut self, guarantees: &[Conjunct]) -> Result<Option<Played>, Stop> {
+    fn told<D: Deadline>(
+        &mut self,
+        guarantees: &[Conjunct],
+        deadline: &D,
+    ) -> Result<Option<Played>, Stop> {
         let used = self.meter.used();
         self.meter = Meter::new(Budget {
             steps: self.budget.steps.saturating_sub(used.steps),
             ..self.budget
         });
         self.budget.steps = self.budget.steps.saturating_sub(used.steps);
-        match self.play(guarantees, true) {
+        match self.play(guarantees, true, deadline) {
             Ok(played) if played.strategy.side == Side::Environment => Ok(Some(played)),
-            Ok(_) | Err(Stop::NoShape | Stop::Passed(_, _)) => Ok(None),
+            Ok(_) | Err(Stop::NoShape | Stop::Passed(_, _) | Stop::Time) => Ok(None),
             Err(Stop::NoMemory) => Err(Stop::NoMemory),
         }
     }
 
-    fn play(&mut self, guarantees: &[Conjunct], is_told: bool) -> Result<Played, Stop> {
+    fn play<D: Deadline>(
+        &mut self,
+        guarantees: &[Conjunct],
+        is_told: bool,
+        deadline: &D,
+    ) -> Result<Played, Stop> {
         let players = Players {
             forms: &self.conjuncts.forms,
             assumptions: &self.conjuncts.assumptions,
@@ -180,15 +203,20 @@ impl Contest<'_> {
             is_told,
             most_kept: self.budget.bytes / 4,
         };
-        play(self.alloc, players, &mut self.meter)
+        play(self.alloc, players, &mut self.meter, deadline)
     }
 
     /// The circuit of a game that is won.
-    fn outcome(&mut self, question: Question<'_>, won: Won) -> Result<Outcome, Stop> {
+    fn outcome<D: Deadline>(
+        &mut self,
+        question: Question<'_>,
+        won: Won,
+        deadline: &D,
+    ) -> Result<Outcome, Stop> {
         let strategy: &Strategy = &won.played.strategy;
         let side = strategy.side;
         let mut meter = Meter::new(self.budget);
-        let joined = join_states(self.alloc, strategy, &mut meter)?;
+        let joined = join_states(self.alloc, strategy, &mut meter, deadline)?;
         let Some(machine) = class_machine(self.alloc, &joined, self.order, side, &mut meter)? else {
             return Ok(Outcome::NoCircuit(side));
         };

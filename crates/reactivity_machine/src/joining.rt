@@ -4,6 +4,7 @@ use conjunct_monitors::{Diagram, Diagrams, Meter, Stop};
 use indexmap::IndexSet;
 use reactivity_game::{Action, Strategy};
 use std::alloc::{AllocError, Global};
+use time_limits::Deadline;
 
 /// A machine whose states are diagrams that end in the numbers of actions. The start is state 0.
 #[derive(Drop)]
@@ -14,10 +15,11 @@ pub(crate) struct Joined {
 }
 
 /// The machine of a strategy with equal states joined.
-pub(crate) fn join_states(
+pub(crate) fn join_states<D: Deadline>(
     alloc: Global,
     strategy: &Strategy,
     meter: &mut Meter,
+    deadline: &D,
 ) -> Result<Joined, Stop> {
     let mut blocks = Vec::new(alloc);
     for _ in &strategy.states {
@@ -27,6 +29,9 @@ pub(crate) fn join_states(
     let mut joined = joined_by(alloc, strategy, &mut blocks)?;
     for _ in 0..strategy.states.len() {
         meter.take_steps(strategy.diagrams.count())?;
+        if deadline.is_over() {
+            return Err(Stop::Time);
+        }
         if joined.states.len() == count {
             break;
         }

@@ -6,6 +6,7 @@ use game_arena::{Arena, Meter, Stop};
 use game_moves::{Game, Positions};
 use std::alloc::{AllocError, Global};
 use std::sync::atomic::{AtomicBool, Ordering};
+use time_limits::Deadline;
 
 /// What games may use.
 #[derive(Clone, Copy)]
@@ -73,12 +74,13 @@ impl<'a> Rounds<'a> {
     }
 
     /// Plays each game that isn't over, up to the first win, with at most the budget's steps for all. A game of the first bound has `slice`
-    /// steps, and one of each further bound half as many. Once `is_decided` is set, they end without a win.
-    pub fn play(
+    /// steps, and one of each further bound half as many. Once `is_decided` is set, or the time is over, they end without a win.
+    pub fn play<D: Deadline>(
         &mut self,
         budget: Budget,
         slice: u64,
         is_decided: &AtomicBool,
+        deadline: &D,
     ) -> Result<Option<Win<'a>>, AllocError> {
         let before = self.used;
         for number in 0..self.games.len() {
@@ -92,7 +94,8 @@ impl<'a> Rounds<'a> {
                 continue;
             }
             let steps = steps_of(slice, rules.place).min(left);
-            match self.play_once(rules, Budget { steps, ..budget }, is_decided) {
+            let own = Budget { steps, ..budget };
+            match self.play_once(rules, own, is_decided, deadline) {
                 Ok(Some(win)) => return Ok(Some(win)),
                 Ok(None) => self.end_lost(rules.bound),
                 Err(Stop::Steps) => {}
@@ -120,18 +123,19 @@ impl<'a> Rounds<'a> {
     }
 
     /// One game: its win, or None where it is lost.
-    fn play_once(
+    fn play_once<D: Deadline>(
         &mut self,
         rules: Rules,
         budget: Budget,
         is_decided: &AtomicBool,
+        deadline: &D,
     ) -> Result<Option<Win<'a>>, Stop> {
         let positions = Positions::new(self.alloc, budget.positions, budget.bytes);
         let most = rules.bound.saturating_add(1);
         let meter = Meter::new(budget.steps);
         let game = Game::new(self.alloc, self.arena, positions, most, meter)?;
         let mut search = Search::new(game, rules.is_widened);
-        let outcome = search.run(is_decided);
+        let outcome = search.run(is_decided, deadline);
         self.used = self.used.saturating_add(search.game.meter.used());
         if !outcome? {
             return Ok(None);

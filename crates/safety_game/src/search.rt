@@ -6,6 +6,7 @@ use game_arena::{Arena, Stop};
 use game_moves::{Candidate, Class};
 use std::alloc::AllocError;
 use std::sync::atomic::{AtomicBool, Ordering};
+use time_limits::Deadline;
 
 /// Of the answers to a class so many are looked at for one that stays within what is there.
 const MOST_LOOKED_AT: usize = 400;
@@ -25,15 +26,19 @@ struct Plan {
 }
 
 impl Search<'_> {
-    /// Whether the start wins. Once `is_decided` is set, there are no more steps.
-    pub(crate) fn run(&mut self, is_decided: &AtomicBool) -> Result<bool, Stop> {
+    /// Whether the start wins. Once `is_decided` is set, or the time is over, there are no more steps.
+    pub(crate) fn run<D: Deadline>(
+        &mut self,
+        is_decided: &AtomicBool,
+        deadline: &D,
+    ) -> Result<bool, Stop> {
         let start = self.game.start()?;
         self.add_node(start)?;
         for _ in 0..u64::MAX {
-            if is_decided.load(Ordering::SeqCst) {
+            if is_decided.load(Ordering::SeqCst) || deadline.is_over() {
                 return Err(Stop::Steps);
             }
-            self.choose_anew()?;
+            self.choose_anew(deadline)?;
             if !self.is_live(0) {
                 return Ok(false);
             }
@@ -48,11 +53,14 @@ impl Search<'_> {
     }
 
     /// Answers again to the classes whose answer led to a node that fell.
-    fn choose_anew(&mut self) -> Result<(), Stop> {
+    fn choose_anew<D: Deadline>(&mut self, deadline: &D) -> Result<(), Stop> {
         for _ in 0..u64::MAX {
             let Some(user) = self.redo.pop_front() else {
                 break;
             };
+            if deadline.is_over() {
+                return Err(Stop::Steps);
+            }
             let is_open = self.is_live(user.node) && self.is_expanded(user.node);
             if is_open && !self.stands(user) && !self.choose(user)? {
                 self.lose(user.node)?;

@@ -6,6 +6,7 @@ use aiger_text::Circuit;
 use letters_and_lassos::{Kind, Side};
 use state_codes::{code_bits, small_net};
 use std::alloc::{AllocError, Global};
+use time_limits::Deadline;
 
 /// How much is done for a small circuit, in steps of about a nanosecond.
 #[derive(Clone, Copy)]
@@ -18,12 +19,14 @@ pub struct Effort {
 /// machines where the system's are of this kind: where those are Moore machines, no output is made of an input by gates.
 /// None where no such circuit was found, where the circuit has over 2 ^ 18 pairs of a reached state and a letter, over 16 inputs, 64 outputs
 /// or 32 latches, or where it isn't of the kind.
-pub fn small_circuit(
+/// Once the time is over, it is the smallest that was found by then.
+pub fn small_circuit<D: Deadline>(
     alloc: Global,
     circuit: &Circuit,
     side: Side,
     kind: Kind,
     effort: Effort,
+    deadline: &D,
 ) -> Result<Option<Circuit>, AllocError> {
     if circuit.gates.is_empty() || circuit.outputs.len() > 64 {
         return Ok(None);
@@ -46,6 +49,7 @@ pub fn small_circuit(
         &reached.codes,
         is_moore,
         effort.steps,
+        deadline,
     )?
     else {
         return Ok(None);

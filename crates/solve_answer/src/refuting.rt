@@ -13,6 +13,7 @@ use solved_text::SizeLog;
 use std::alloc::{AllocError, Global};
 use std::sync::Wait;
 use std::thread::Threads;
+use time_limits::Deadline;
 
 /// Which sizes are to be refuted, and with how much effort.
 #[derive(Clone, Copy, Debug)]
@@ -23,6 +24,8 @@ pub struct Refuting {
     pub entries: Option<u64>,
     /// How many workers search, from 1 to 64. One is the caller itself.
     pub workers: u32,
+    /// After so many seconds the games and searches of a text end. None: they take as long as they take.
+    pub seconds: Option<u32>,
 }
 
 impl Refuting {
@@ -69,7 +72,7 @@ pub(crate) fn ground_of(
 }
 
 /// What comes of the sizes below a known one of a side.
-pub(crate) fn refuted<R: Threads + Wait + Sync, G: Gate + Sync>(
+pub(crate) fn refuted<R: Threads + Wait + Sync, G: Gate + Sync, D: Deadline + Sync>(
     rt: &R,
     alloc: Global,
     text: &SolveText,
@@ -77,15 +80,25 @@ pub(crate) fn refuted<R: Threads + Wait + Sync, G: Gate + Sync>(
     known: u32,
     refuting: Refuting,
     gate: &G,
+    deadline: &D,
 ) -> Result<Refutations, AllocError>
     requires { CanBePlayed text.now }
 {
     if known <= 1 {
-        return Ok(Refutations {
-            logs: Vec::new(alloc),
-            ended: Ended::AllRefuted,
-        });
+        return Ok(no_log(alloc, Ended::AllRefuted));
+    }
+    if deadline.is_over() {
+        return Ok(no_log(alloc, Ended::Time(1)));
     }
     let ground = ground_of(alloc, text, side)?;
-    Ok(refute_sizes(rt, alloc, &ground, known, refuting.effort(), gate))
+    let effort = refuting.effort();
+    Ok(refute_sizes(rt, alloc, &ground, known, effort, gate, deadline))
+}
+
+/// That no size was refuted, and why.
+fn no_log(alloc: Global, ended: Ended) -> Refutations {
+    Refutations {
+        logs: Vec::new(alloc),
+        ended,
+    }
 }

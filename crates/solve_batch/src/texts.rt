@@ -14,16 +14,19 @@ use std::alloc::{AllocError, Global};
 use std::marker::Model;
 use std::sync::Wait;
 use std::thread::Threads;
+use time_limits::SharedTime;
 
-/// The job of solving texts, each by the worker that takes it alone. A contract sees the kind that is given, and how far documents may refute.
+/// The job of solving texts, each by the worker that takes it alone, within its own time. A contract sees the kind that is given, and how far
+/// documents may refute.
 #[derive(Drop)]
-pub struct Solving {
+pub struct Solving<'a> {
     alloc: Global,
     given: Option<Kind>,
     refuting: Refuting,
+    time: &'a SharedTime,
 }
 
-impl Model for Solving {
+impl Model for Solving<'_> {
     ghost use Rattle.solve_answer.specs.Parts.{limits_of};
     ghost use Rattle.solve_batch.specs.SolvedBatch.{AskedOfEach};
 
@@ -32,9 +35,14 @@ impl Model for Solving {
     ghost view = { λ job. record { given = job.given; limits = limits_of job.refuting } };
 }
 
-impl Solving {
+impl<'a> Solving<'a> {
     /// With a kind in place of the texts' own, if one is given.
-    pub fn new(alloc: Global, given: Option<Kind>, refuting: Refuting) -> Solving
+    pub fn new(
+        alloc: Global,
+        given: Option<Kind>,
+        refuting: Refuting,
+        time: &'a SharedTime,
+    ) -> Solving<'a>
         ensures { result ≡ record { given = given; limits = limits_of refuting } }
     {
         Solving {
@@ -44,6 +52,7 @@ impl Solving {
                 workers: 1,
                 ..refuting
             },
+            time,
         }
     }
 
@@ -59,12 +68,13 @@ impl Solving {
             GAME_BUDGET,
             self.refuting,
             &OpenGate,
+            self.time,
             &mut NoListener,
         )
     }
 }
 
-impl Job for Solving {
+impl Job for Solving<'_> {
     ghost use Rattle.solve_batch.specs.SolvedBatch.{IsSolvedReply};
 
     type Task = TakenText;

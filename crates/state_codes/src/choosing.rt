@@ -6,6 +6,7 @@ use crate::tables::Table;
 use gate_search::{Work, decomposed_net, improved, net_of_products};
 use signal_nets::{Net, Problem};
 use std::alloc::{AllocError, Global};
+use time_limits::Deadline;
 
 /// What draws begin with.
 const SEED: u64 = 7;
@@ -18,13 +19,15 @@ enum Start {
 }
 
 /// The smallest net of a machine that is found by some code, within so many steps of about a nanosecond. The known code is one of those that
-/// are looked at. No gate below an output of a Moore machine uses an input. None where the steps are too few for any net.
-pub fn small_net(
+/// are looked at. No gate below an output of a Moore machine uses an input. None where the steps are too few for any net. Once the time is
+/// over, which is asked before each net, it is the smallest that was found by then.
+pub fn small_net<D: Deadline>(
     alloc: Global,
     table: &Table,
     known: &[u32],
     is_moore: bool,
     steps: u64,
+    deadline: &D,
 ) -> Result<Option<Net>, AllocError> {
     let mut for_codes = Work::new(steps / 4, SEED);
     let codes = likely_codes(alloc, table, known, &mut for_codes)?;
@@ -34,6 +37,9 @@ pub fn small_net(
     for code in &codes {
         let problem = problem_of(alloc, table, code, bits, is_moore)?;
         for start in [Start::Decomposition, Start::Products] {
+            if deadline.is_over() {
+                return Ok(best);
+            }
             let net = net_from(alloc, &problem, start, for_each)?;
             if is_smaller(&net, &best) {
                 best = net;

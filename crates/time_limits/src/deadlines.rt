@@ -18,6 +18,7 @@ impl Deadline for NoDeadline {
 }
 
 /// The end of the time that one text may take, by a stopwatch.
+#[derive(Drop)]
 pub struct TextDeadline<'a, S> {
     stopwatch: &'a S,
     /// The end, in the stopwatch's milliseconds. There is none where the text may take as long as it takes.

@@ -5,7 +5,9 @@
 #![tactic(auto)]
 
 mod deadlines;
+mod shared_time;
 mod stopwatches;
 
 pub use deadlines::{Deadline, NoDeadline, TextDeadline};
+pub use shared_time::SharedTime;
 pub use stopwatches::{NoStopwatch, Stopwatch};

@@ -8,6 +8,7 @@ use outcome_news::NoListener;
 use std::alloc::{AllocError, Global};
 use std::sync::Wait;
 use std::thread::Threads;
+use time_limits::NoStopwatch;
 
 /// A file of the rows.
 #[derive(Drop)]
@@ -83,6 +84,7 @@ pub(crate) fn run_through<R: Threads + Wait + Sync>(
         &mut shelf,
         &mut sink,
         gate,
+        &NoStopwatch,
         &mut NoListener,
     );
     Ok(Ended {

@@ -1,5 +1,5 @@
 -- From what was found out of a file whose annotation names its states to the answer.
-use Rattle.std.proofs.Common.{◌≡◌, ◌≢◌, ℕ, ◌≤◌, None, List, length, refl, sym, ap, subst, ◌∙◌, arith}
+use Rattle.std.proofs.Common.{◌≡◌, ◌≢◌, ℕ, ◌≤◌, Option, List, length, refl, sym, ap, subst, ◌∙◌, arith}
 use Rattle.std.proofs.lemmas.Bool.{not-false}
 use Rattle.letters_and_lassos.specs.declared.kinds.Kind.{Kind}
 use Rattle.letters_and_lassos.specs.declared.kinds.Side.{Side}
@@ -31,7 +31,7 @@ use Rattle.verify_answer.specs.Verified.{DoesItsPart, HasSignals, IsDefeating, I
 use Rattle.verify_answer.proofs.Naming.{circuit_named, kind_named, run_unnamed}
 use Rattle.verify_answer.proofs.Signals.{has_signals}
 
-module _ (text : List ℕ) (t : SolveText) (is : IsSolveText text None t) where
+module _ (text : List ℕ) (given : Option Kind) (t : SolveText) (is : IsSolveText text given t) where
   -- the text is ready for the test of circuits of either side
   pub ready : IsReadyFor t
   ready = record {
@@ -51,8 +51,8 @@ module _ (text : List ℕ) (t : SolveText) (is : IsSolveText text None t) where
     };
   }
 
-  pub testable : SolveTextsAreDetermined → IsTestable text t
-  testable texts = record { is_text = is; ready = ready; no_fault = λ code place fault. texts.no_fault text None t code place is fault }
+  pub testable : SolveTextsAreDetermined → IsTestable text given t
+  testable texts = record { is_text = is; ready = ready; no_fault = λ code place fault. texts.no_fault text given t code place is fault }
 
   satisfying : (circuit : List ℕ) (found : IsShown (owed_to t System) circuit) → IsSatisfying is.wanted found.file.circuit
   satisfying circuit found =
@@ -103,7 +103,7 @@ module _ (text : List ℕ) (t : SolveText) (is : IsSolveText text None t) where
     does Environment circuit found = defeating circuit found
 
     pub shown_answers : (side : Side) (circuit bytes : List ℕ) (status : Status) → IsShown (owed_to t side) circuit → bytes ≡ tested_line side t.kind t.semantics
-        → status ≡ ended.Done → TestAnswers side text circuit t bytes (status_number status)
+        → status ≡ ended.Done → TestAnswers side text given circuit t bytes (status_number status)
     unfolding does
     shown_answers side circuit bytes status found line done =
         shown (ap status_number done) (record {
@@ -118,21 +118,21 @@ module _ (text : List ℕ) (t : SolveText) (is : IsSolveText text None t) where
         }) line
 
   pub bad_answers : (side : Side) (circuit bytes : List ℕ) (status : Status) (n : ℕ) → IsFirstBad (owed_to t side) circuit n → bytes ≡ line_refusal n
-      → status ≡ ended.LineRefused → TestAnswers side text circuit t bytes (status_number status)
+      → status ≡ ended.LineRefused → TestAnswers side text given circuit t bytes (status_number status)
   bad_answers side circuit bytes status n first line done = line_fails n (ap status_number done) first line
 
 -- == a text before a circuit is taken ==
 
 -- a fault that `solve` finds too is answered whatever the circuit is
-pub system_refused : (text : List ℕ) (r : Reply) → IsRefusedAnyway text r → IsRefusedFor System text r
-system_refused text r is = λ circuit. refused is.fault.code is.fault.place is.fault.status_is is.fault.fault (refused_by_solve is.code is.place is.larger) is.fault.line
+pub system_refused : (text : List ℕ) (given : Option Kind) (r : Reply) → IsRefusedAnyway text given r → IsRefusedFor System text given r
+system_refused text given r is = λ circuit. refused is.fault.code is.fault.place is.fault.status_is is.fault.fault (refused_by_solve is.code is.place is.larger) is.fault.line
 
-pub environment_refused : (text : List ℕ) (r : Reply) → RefusedBy (IsSolveFault text None) r.bytes.items (status_number r.status) → IsRefusedFor Environment text r
-environment_refused text r is = λ circuit. text_refused is.code is.place is.status_is is.fault is.line
+pub environment_refused : (text : List ℕ) (given : Option Kind) (r : Reply) → RefusedBy (IsSolveFault text given) r.bytes.items (status_number r.status) → IsRefusedFor Environment text given r
+environment_refused text given r is = λ circuit. text_refused is.code is.place is.status_is is.fault is.line
 
 -- a text that has a fault as `solve` takes it has one within smaller limits, so it has no problems
-pub never_given : SmallTextsAreTaken → ProblemsOfTextsAreDetermined → (text : List ℕ) (fault : SpecFault) (t : TextProblems) → fault ≢ failed.NoMemory
-    → IsSolveRefusal text fault → IsForVerify text t → ⊥
-never_given small problems text failed.NoMemory t some refusal taken = some refl
-never_given small problems text (failed.At code place) t some refusal taken =
-    small text None (λ c p fault. problems.no_fault text None Whole (spec_seen t.spec) t.problems c p taken.text_with.are fault) code place refusal
+pub never_given : SmallTextsAreTaken → ProblemsOfTextsAreDetermined → (text : List ℕ) (given : Option Kind) (fault : SpecFault) (t : TextProblems) → fault ≢ failed.NoMemory
+    → IsSolveRefusal text given fault → IsForVerify text given t → ⊥
+never_given small problems text given failed.NoMemory t some refusal taken = some refl
+never_given small problems text given (failed.At code place) t some refusal taken =
+    small text given (λ c p fault. problems.no_fault text given Whole (spec_seen t.spec) t.problems c p taken.text_with.are fault) code place refusal

@@ -29,13 +29,13 @@ verified_line Mealy = codes "verified as Mealy\n"
 verified_line Moore = codes "verified as Moore\n"
 
 -- a text's flat form and the problems of its two sides, with the kind that it names
-pub record GivenToVerify (text : List ℕ) : Type 0 where
+pub record GivenToVerify (text : List ℕ) (given : Option Kind) : Type 0 where
   pub spec : FlatText
   pub problems : SideProblems
-  pub are_problems : AreProblemsOf text None Whole spec problems
+  pub are_problems : AreProblemsOf text given Whole spec problems
 
 -- what the text gives to the test of circuits
-abbrev pub facts_to_verify : {text : List ℕ} → GivenToVerify text → Facts
+abbrev pub facts_to_verify : {text : List ℕ} {given : Option Kind} → GivenToVerify text given → Facts
 facts_to_verify g = given_by g.spec g.problems
 
 -- == an annotation that names its states ==
@@ -72,45 +72,45 @@ owed_to t Environment = record {
 }
 
 -- a text as `solve` takes it, within larger limits, and converted where its kinds differ
-pub record GivenToTest (text : List ℕ) : Type 0 where
+pub record GivenToTest (text : List ℕ) (given : Option Kind) : Type 0 where
   pub known : SolveText
-  pub is_text : IsSolveText text None known
+  pub is_text : IsSolveText text given known
 
 -- what answers the file of a circuit of a side and a text that is known so: the file's first bad line for the text, or what is verified
-pub data TestAnswers (side : Side) (text circuit : List ℕ) (t : SolveText) (bytes : List ℕ) (status : ℕ) : Type 0 where
+pub data TestAnswers (side : Side) (text : List ℕ) (given : Option Kind) (circuit : List ℕ) (t : SolveText) (bytes : List ℕ) (status : ℕ) : Type 0 where
   line_fails : (n : ℕ) → status ≡ 40 → IsFirstBad (owed_to t side) circuit n → bytes ≡ line_refusal n
-      → TestAnswers side text circuit t bytes status
-  shown : status ≡ 0 → IsVerifiedFor side text circuit (owed_to t side) → bytes ≡ tested_line side t.kind t.semantics
-      → TestAnswers side text circuit t bytes status
+      → TestAnswers side text given circuit t bytes status
+  shown : status ≡ 0 → IsVerifiedFor side text given circuit (owed_to t side) → bytes ≡ tested_line side t.kind t.semantics
+      → TestAnswers side text given circuit t bytes status
 
 -- == the answers ==
 
 -- why the first fault of a text is answered, and the circuit isn't tested: its annotation names no states, or the text has a fault as
 -- `solve` takes it too
-pub data IsUntested (text circuit : List ℕ) : Type 0 where
-  without_states : (NamesStates circuit → ⊥) → IsUntested text circuit
-  refused_by_solve : (code : SpecCode) (position : ℕ) → IsSolveFault text None code position → IsUntested text circuit
+pub data IsUntested (text : List ℕ) (given : Option Kind) (circuit : List ℕ) : Type 0 where
+  without_states : (NamesStates circuit → ⊥) → IsUntested text given circuit
+  refused_by_solve : (code : SpecCode) (position : ℕ) → IsSolveFault text given code position → IsUntested text given circuit
 
 -- The bytes and the status that answer a text and the file of a circuit that plays the system: the line of the text's first fault, that
 -- of the file's first bad line for the text, or what is verified. Where the annotation names its states, the text is taken as `solve`
 -- takes it.
-pub data VerifyAnswers (text circuit bytes : List ℕ) (status : ℕ) : Type 0 where
-  refused : (code : SpecCode) (position : ℕ) → status ≡ 1 → IsFirstFault text None code position → IsUntested text circuit
-      → bytes ≡ refusal_line code position → VerifyAnswers text circuit bytes status
-  bad_line : (g : GivenToVerify text) (n : ℕ) → status ≡ 40 → (NamesStates circuit → ⊥) → IsFirstBadOfCircuit (facts_to_verify g) circuit n
-      → bytes ≡ line_refusal n → VerifyAnswers text circuit bytes status
-  verified : (g : GivenToVerify text) → status ≡ 0 → (NamesStates circuit → ⊥) → IsVerified text circuit (facts_to_verify g)
-      → bytes ≡ verified_line (facts_to_verify g).system.kind → VerifyAnswers text circuit bytes status
-  of_states : (g : GivenToTest text) → NamesStates circuit → TestAnswers System text circuit g.known bytes status
-      → VerifyAnswers text circuit bytes status
+pub data VerifyAnswers (text : List ℕ) (given : Option Kind) (circuit bytes : List ℕ) (status : ℕ) : Type 0 where
+  refused : (code : SpecCode) (position : ℕ) → status ≡ 1 → IsFirstFault text given code position → IsUntested text given circuit
+      → bytes ≡ refusal_line code position → VerifyAnswers text given circuit bytes status
+  bad_line : (g : GivenToVerify text given) (n : ℕ) → status ≡ 40 → (NamesStates circuit → ⊥) → IsFirstBadOfCircuit (facts_to_verify g) circuit n
+      → bytes ≡ line_refusal n → VerifyAnswers text given circuit bytes status
+  verified : (g : GivenToVerify text given) → status ≡ 0 → (NamesStates circuit → ⊥) → IsVerified text given circuit (facts_to_verify g)
+      → bytes ≡ verified_line (facts_to_verify g).system.kind → VerifyAnswers text given circuit bytes status
+  of_states : (g : GivenToTest text given) → NamesStates circuit → TestAnswers System text given circuit g.known bytes status
+      → VerifyAnswers text given circuit bytes status
 
 -- The same of a circuit that plays the environment, whose annotation names its states in any case: the text is taken as `solve` takes it.
-pub data EnvironmentAnswers (text circuit bytes : List ℕ) (status : ℕ) : Type 0 where
-  text_refused : (code : SpecCode) (position : ℕ) → status ≡ 1 → IsSolveFault text None code position → bytes ≡ refusal_line code position
-      → EnvironmentAnswers text circuit bytes status
-  of_text : (g : GivenToTest text) → TestAnswers Environment text circuit g.known bytes status → EnvironmentAnswers text circuit bytes status
+pub data EnvironmentAnswers (text : List ℕ) (given : Option Kind) (circuit bytes : List ℕ) (status : ℕ) : Type 0 where
+  text_refused : (code : SpecCode) (position : ℕ) → status ≡ 1 → IsSolveFault text given code position → bytes ≡ refusal_line code position
+      → EnvironmentAnswers text given circuit bytes status
+  of_text : (g : GivenToTest text given) → TestAnswers Environment text given circuit g.known bytes status → EnvironmentAnswers text given circuit bytes status
 
 -- the answer to the file of a circuit that plays this side
-abbrev pub CircuitAnswers : Side → List ℕ → List ℕ → List ℕ → ℕ → Type 0
-CircuitAnswers System text circuit bytes status = VerifyAnswers text circuit bytes status
-CircuitAnswers Environment text circuit bytes status = EnvironmentAnswers text circuit bytes status
+abbrev pub CircuitAnswers : Side → List ℕ → Option Kind → List ℕ → List ℕ → ℕ → Type 0
+CircuitAnswers System text given circuit bytes status = VerifyAnswers text given circuit bytes status
+CircuitAnswers Environment text given circuit bytes status = EnvironmentAnswers text given circuit bytes status

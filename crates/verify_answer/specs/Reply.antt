@@ -1,5 +1,6 @@
 -- How the answers of `verify` are made (this project's own).
 use Rattle.std.specs.Prelude.{◌≡◌, ◌≢◌, ◌<◌, ⊤, ℕ, Bool, List, Option, Some, None, length}
+use Rattle.letters_and_lassos.specs.declared.kinds.Kind.{Kind}
 use Rattle.letters_and_lassos.specs.declared.kinds.Side.{Side}
 use Rattle.letters_and_lassos.specs.declared.kinds.Side.TheVariants.{System, Environment}
 use Rattle.letters_and_lassos.specs.Word.{Word}
@@ -41,15 +42,15 @@ pub record AreReady (facts : Facts) : Type 0 where
   pub inputs : facts.system.inputs ≡ length facts.inputs
   pub outputs : facts.system.outputs ≡ length facts.outputs
 
--- a text that was read and expanded, with the kind that it names, and its problems
-pub record IsForVerify (text : List ℕ) (t : TextProblems) : Type 0 where
-  pub text_with : IsTextWith Whole text None (spec_seen t.spec) t.problems
+-- a text that was read and expanded, with the kind that is given or that it names, and its problems
+pub record IsForVerify (text : List ℕ) (given : Option Kind) (t : TextProblems) : Type 0 where
+  pub text_with : IsTextWith Whole text given (spec_seen t.spec) t.problems
   pub ready : AreReady (given_by (spec_seen t.spec) t.problems)
 
 -- a text's problems, or the reply to its first fault
-abbrev pub AreForVerify : List ℕ → Problems → Type 0
-AreForVerify text (Of t) = IsForVerify text t
-AreForVerify text (Refused r) = RefusedBy (IsFirstFault text None) r.bytes.items (status_number r.status)
+abbrev pub AreForVerify : List ℕ → Option Kind → Problems → Type 0
+AreForVerify text given (Of t) = IsForVerify text given t
+AreForVerify text given (Refused r) = RefusedBy (IsFirstFault text given) r.bytes.items (status_number r.status)
 
 -- == the text as `solve` takes it ==
 
@@ -59,31 +60,31 @@ pub record IsReadyFor (t : SolveText) : Type 0 where
   pub environment : IsReady (owed_to t Environment)
 
 -- the text is taken so, has no fault so, and circuits can be tested against it
-pub record IsTestable (text : List ℕ) (t : SolveText) : Type 0 where
-  pub is_text : IsSolveText text None t
+pub record IsTestable (text : List ℕ) (given : Option Kind) (t : SolveText) : Type 0 where
+  pub is_text : IsSolveText text given t
   pub ready : IsReadyFor t
-  pub no_fault : (code : SpecCode) (place : ℕ) → IsSolveFault text None code place → ⊥
+  pub no_fault : (code : SpecCode) (place : ℕ) → IsSolveFault text given code place → ⊥
 
 -- want of memory, or a fault of the text as `solve` takes it
-abbrev pub IsSolveRefusal : List ℕ → SpecFault → Type 0
-IsSolveRefusal text failed.NoMemory = ⊤
-IsSolveRefusal text (failed.At code place) = IsSolveFault text None code place
+abbrev pub IsSolveRefusal : List ℕ → Option Kind → SpecFault → Type 0
+IsSolveRefusal text given failed.NoMemory = ⊤
+IsSolveRefusal text given (failed.At code place) = IsSolveFault text given code place
 
 -- the reply to the first fault of a text that has one as `solve` takes it too
-pub record IsRefusedAnyway (text : List ℕ) (r : AReply) : Type 0 where
-  pub fault : RefusedBy (IsFirstFault text None) r.bytes.items (status_number r.status)
+pub record IsRefusedAnyway (text : List ℕ) (given : Option Kind) (r : AReply) : Type 0 where
+  pub fault : RefusedBy (IsFirstFault text given) r.bytes.items (status_number r.status)
   pub code : SpecCode
   pub place : ℕ
-  pub larger : IsSolveFault text None code place
+  pub larger : IsSolveFault text given code place
 
 -- a reply that answers the text with whatever circuit that plays this side
-abbrev pub IsRefusedFor : Side → List ℕ → AReply → Type 0
-IsRefusedFor side text r = (circuit : List ℕ) → CircuitAnswers side text circuit r.bytes.items (status_number r.status)
+abbrev pub IsRefusedFor : Side → List ℕ → Option Kind → AReply → Type 0
+IsRefusedFor side text given r = (circuit : List ℕ) → CircuitAnswers side text given circuit r.bytes.items (status_number r.status)
 
 -- a text that is known, or such a reply
-abbrev pub IsTextFor : Side → List ℕ → TextForVerify → Type 0
-IsTextFor side text (told.Taken t) = IsTestable text t
-IsTextFor side text (told.Refused r) = IsRefusedFor side text r
+abbrev pub IsTextFor : Side → List ℕ → Option Kind → TextForVerify → Type 0
+IsTextFor side text given (told.Taken t) = IsTestable text given t
+IsTextFor side text given (told.Refused r) = IsRefusedFor side text given r
 
 -- == a list of pairs ==
 

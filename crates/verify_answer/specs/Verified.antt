@@ -1,6 +1,7 @@
 -- What a circuit of another maker owes to a text (this project's own; bounded synthesis of Finkbeiner and Schewe).
-use Rattle.std.specs.Prelude.{◌≡◌, ℕ, List, Some, None, length, map}
+use Rattle.std.specs.Prelude.{◌≡◌, ℕ, List, Option, Some, length, map}
 use Rattle.std.specs.List.{AllZip}
+use Rattle.letters_and_lassos.specs.declared.kinds.Kind.{Kind}
 use Rattle.letters_and_lassos.specs.declared.kinds.Side.{Side}
 use Rattle.letters_and_lassos.specs.declared.kinds.Side.TheVariants.{System, Environment}
 use Rattle.aiger_text.specs.Circuit.{Circuit, RunsOnEveryInput}
@@ -50,24 +51,24 @@ DoesItsPart System x c = IsSatisfying x c
 DoesItsPart Environment x c = IsDefeating x c
 
 -- The file has an annotation for the text that is valid for its circuit, so the circuit satisfies what the text wants, with the kind
--- that the text names.
-pub record IsVerified (text bytes : List ℕ) (facts : Facts) : Type 0 where
+-- that is given, or else that the text names.
+pub record IsVerified (text : List ℕ) (given : Option Kind) (bytes : List ℕ) (facts : Facts) : Type 0 where
   pub file : File
   pub list : Listed
   pub annotates : Annotates facts bytes file list
   pub valid : IsValidFor facts file list
   pub wanted : Wanted
-  pub is_wanted : IsWantedBy text None wanted
+  pub is_wanted : IsWantedBy text given wanted
   pub satisfying : IsSatisfying wanted file.circuit
 
 -- The file has an annotation over named states for the text that is valid for its circuit, which plays the side, so the circuit does what
 -- it owes to what the text wants, by the meaning of the text as it is written (of a converted one, of the shifted word).
-pub record IsVerifiedFor (side : Side) (text bytes : List ℕ) (owed : Owed) : Type 0 where
+pub record IsVerifiedFor (side : Side) (text : List ℕ) (given : Option Kind) (bytes : List ℕ) (owed : Owed) : Type 0 where
   pub file : File
   pub named : Named
   pub annotates : circuits.Annotates owed bytes file named
   pub valid : circuits.IsValidFor owed file named
   pub flat : FlatText
   pub wanted : Wanted
-  pub taken : IsTakenAs text None flat wanted
+  pub taken : IsTakenAs text given flat wanted
   pub does : DoesItsPart side wanted file.circuit

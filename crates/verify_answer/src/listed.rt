@@ -1,6 +1,7 @@
 //! The answer to a file whose annotation is over the system's automaton.
-ghost use Rattle.std.specs.Prelude.{◌≡◌, ◌≢◌, ℕ, List, ◌+◌, ◌<◌, ◌≤◌, ◌^◌, ◌⊎◌, IfErr, IfOk, IfSome, None, length};
+ghost use Rattle.std.specs.Prelude.{◌≡◌, ◌≢◌, ℕ, List, ◌+◌, ◌<◌, ◌≤◌, ◌^◌, ◌⊎◌, IfErr, IfOk, IfSome, None, Option, length};
 ghost use Rattle.std.specs.Option.{option_copied};
+ghost use Rattle.letters_and_lassos.specs.declared.kinds.Kind.{Kind};
 ghost use Rattle.aiger_text.specs.declared.faults.CircuitFault.TheVariants.{NoMemory};
 ghost use Rattle.aiger_text.specs.CircuitFile.{IsFirstFault, States};
 ghost use Rattle.aiger_text.specs.CircuitType.{IsCircuit};
@@ -37,8 +38,8 @@ pub fn listed_answer(
     circuit: &[u8],
 ) -> Result<Reply, AllocError>
     requires { AreReady (given_by (spec_seen text.now.spec) text.now.problems) }
-    ensures { (bytes : List ℕ) → IsForVerify bytes text.now → (NamesStates circuit.now → ⊥)
-        → IfOk result (λ r. VerifyAnswers bytes circuit.now r.bytes.items (status_number r.status)) }
+    ensures { (bytes : List ℕ) (given : Option Kind) → IsForVerify bytes given text.now → (NamesStates circuit.now → ⊥)
+        → IfOk result (λ r. VerifyAnswers bytes given circuit.now r.bytes.items (status_number r.status)) }
 {
     match first_bad_line(alloc, facts_of(text), circuit)? {
         None => verified(alloc, text.problems.system.kind),

@@ -1,5 +1,6 @@
 //! The answer to a file whose annotation names its states.
-ghost use Rattle.std.specs.Prelude.{◌≡◌, ◌++◌, ℕ, List, IfOk, None, OnOk};
+ghost use Rattle.std.specs.Prelude.{◌≡◌, ◌++◌, ℕ, List, Option, IfOk, OnOk};
+ghost use Rattle.letters_and_lassos.specs.declared.kinds.Kind.{Kind};
 ghost use Rattle.program_replies.specs.Statuses.{status_number};
 ghost use Rattle.solve_ground.specs.SolveText.{IsSolveText};
 ghost use Rattle.circuit_check.specs.Duty.{owed_by};
@@ -22,7 +23,7 @@ pub(crate) fn tested(
     circuit: &[u8],
 ) -> Result<Reply, AllocError>
     requires { IsReadyFor known.now }
-    ensures { (text : List ℕ) → IsSolveText text None known.now → IfOk result (λ r. TestAnswers side text circuit.now known.now r.bytes.items (status_number r.status)) }
+    ensures { (text : List ℕ) (given : Option Kind) → IsSolveText text given known.now → IfOk result (λ r. TestAnswers side text given circuit.now known.now r.bytes.items (status_number r.status)) }
 {
     losing_circuits_defeat();
     match first_bad_line(alloc, duty_of(known, side), circuit)? {

@@ -1,1 +1,7 @@
 pub mod Made
+pub mod Marking
+pub mod Numbering
+pub mod Bounds
+pub mod Rising
+pub mod Fitting
+pub mod Formulas

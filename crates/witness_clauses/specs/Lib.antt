@@ -1,0 +1,4 @@
+pub mod Marks
+pub mod Counted
+pub mod Smallness
+pub mod Laws

@@ -1,6 +1,7 @@
 ghost use Rattle.std.specs.Prelude.{◌≡◌, ◌+◌, ◌*◌, ◌^◌, ◌≤◌, ◌++◌, map, filter, nat_lt, All, IfOk, OnOk};
-ghost use Rattle.truth_witness.specs.Clauses.{literal_of, made};
+ghost use Rattle.truth_witness.specs.Clauses.{base_clauses, literal_of, made};
 
+use crate::literals::Literals;
 use propositional_logic::laws::clauses_are_sets;
 use propositional_logic::{Clause, ClauseFault, Lit};
 use std::alloc::{AllocError, Global};
@@ -44,4 +45,21 @@ fn kept(alloc: Global, lits: &[u32]) -> Result<Vec<Lit>, AllocError>
         }
     }
     Ok(kept)
+}
+
+/// Adds the base clauses that are made of clauses, in their order.
+pub(crate) fn add_base(
+    alloc: Global,
+    vars: u32,
+    clauses: &[Literals],
+    made: &mut Vec<Clause>,
+) -> Result<(), AllocError>
+    requires vars { vars ≤ 2 ^ 30 }
+    requires within { All (All (λ l. l ≤ 2 * vars + 1)) clauses.now }
+    ensures { OnOk result (made.new.items ≡ made.old.items ++ base_clauses clauses.now) }
+{
+    for clause in clauses {
+        add_made(alloc, vars, clause.lits(), made)?;
+    }
+    Ok(())
 }

@@ -1,19 +1,16 @@
-use Rattle.std.proofs.Common.{refl, rules}
-use Rattle.boundsyn_top.proofs.ReplyLemmas.{can_be_tested, takes_certificates, whatever}
+use Rattle.std.proofs.Common.{refl}
+use Rattle.boundsyn_top.proofs.ReplyLemmas.{takes_certificates, whatever}
 use Rattle.boundsyn_top.proofs.certificates.check_by.Goals as goal
-
-pub checked-requires : goal.checked-requires
-checked-requires g c = (search rules, can_be_tested c.args.text.now c.in-Taken.found (rw c.in-Taken.is at c.in_ok-found.ensures))
 
 pub returns-in-Taken-clause-reply : goal.returns-in-Taken-clause-reply
 returns-in-Taken-clause-reply g c =
     let taken = rw c.in-Taken.is at c.in_ok-found.ensures in
-    c.checked.ensures.reply taken (takes_certificates c.args.text.now c.in-Taken.found c.problems_of_texts_are_determined.ensures taken)
+    c.checked.ensures.reply taken (takes_certificates c.args.text.now taken)
 
 pub returns-in-Taken-clause-other_files : goal.returns-in-Taken-clause-other_files
 returns-in-Taken-clause-other_files g c = λ name differs.
     let taken = rw c.in-Taken.is at c.in_ok-found.ensures in
-    c.checked.ensures.other_files name (differs (takes_certificates c.args.text.now c.in-Taken.found c.problems_of_texts_are_determined.ensures taken))
+    c.checked.ensures.other_files name (differs (takes_certificates c.args.text.now taken))
 
 pub returns-in-Refused-clause-reply : goal.returns-in-Refused-clause-reply
 returns-in-Refused-clause-reply g c =

@@ -16,4 +16,4 @@ returns-in-Some-clause-reply g c = λ taken due.
 pub returns-in-None-clause-reply : goal.returns-in-None-clause-reply
 returns-in-None-clause-reply g c = λ taken due.
     let rose = rw c.in-None.is at c.in_ok-document.ensures.taken in
-    IfOk-weaker c.unread_document.result _ _ (λ r tells. count_rose due rose tells) (c.unread_document.ensures c.args.text.now taken)
+    IfOk-weaker c.unread_document.result _ _ (λ r tells. count_rose due rose tells) c.unread_document.ensures

@@ -1,6 +1,6 @@
 use Rattle.std.proofs.lemmas.Result.{IfOk-weaker}
 use Rattle.std.proofs.Common.{refl}
-use Rattle.program_words.specs.Settings.{core, expand, solve, synth}
+use Rattle.program_words.specs.Settings.{core, expand, expand_solve, solve, synth}
 use Rattle.boundsyn_top.proofs.ReplyLemmas.{not_first}
 use Rattle.boundsyn_top.proofs.replies.obey.Goals as goal
 
@@ -16,6 +16,14 @@ pub returns-in-Expand-clause-other_files : goal.returns-in-Expand-clause-other_f
 returns-in-Expand-clause-other_files g c = λ name foreign.
     c.expand_spec.ensures.other_files name (not_first _ (expand c.in-Expand.spec.now) c.in-Expand.spec.now name refl (rw c.in-Expand.is at foreign))
 
+pub returns-in-ExpandSolve-clause-other_files : goal.returns-in-ExpandSolve-clause-other_files
+returns-in-ExpandSolve-clause-other_files g c = λ name foreign.
+    c.expand_solved.ensures.other_files name
+    (not_first _ (expand_solve c.in-ExpandSolve.spec.now c.in-ExpandSolve.kind c.in-ExpandSolve.nodes) c.in-ExpandSolve.spec.now name refl (rw c.in-ExpandSolve.is at foreign))
+
+pub returns-in-LassoSolve-clause-other_files : goal.returns-in-LassoSolve-clause-other_files
+returns-in-LassoSolve-clause-other_files g c = λ name foreign. c.tell_solved.ensures.other_files name (rw c.in-LassoSolve.is at foreign)
+
 pub returns-in-Lasso-clause-other_files : goal.returns-in-Lasso-clause-other_files
 returns-in-Lasso-clause-other_files g c = λ name foreign. c.tell_truth.ensures.other_files name (rw c.in-Lasso.is at foreign)
 
@@ -30,7 +38,7 @@ returns-in-Core-clause-other_files g c = λ name foreign.
 pub returns-in-Solve-clause-other_files : goal.returns-in-Solve-clause-other_files
 returns-in-Solve-clause-other_files g c = λ name foreign.
     c.solve_spec.ensures.other_files name
-    (not_first _ (solve c.in-Solve.spec.now c.in-Solve.kind (record { max = c.in-Solve.max; entries = c.in-Solve.entries; workers = c.in-Solve.workers })) c.in-Solve.spec.now name refl (rw c.in-Solve.is at foreign))
+    (not_first _ (solve c.in-Solve.spec.now c.in-Solve.kind (record { max = c.in-Solve.max; entries = c.in-Solve.entries; workers = c.in-Solve.workers; seconds = c.in-Solve.seconds })) c.in-Solve.spec.now name refl (rw c.in-Solve.is at foreign))
 
 pub returns-in-Batch-clause-other_files : goal.returns-in-Batch-clause-other_files
 returns-in-Batch-clause-other_files g c = λ name foreign. c.answer_list.ensures.other_files name (rw c.in-Batch.is at foreign)

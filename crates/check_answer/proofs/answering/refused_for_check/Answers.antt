@@ -1,11 +1,12 @@
 use Rattle.program_replies.specs.Statuses.{status_number}
-use Rattle.check_answer.proofs.Answered.{refused_in_any_case}
+use Rattle.check_answer.proofs.Answered.{refused_in_any_case, taken_by_solve}
 use Rattle.check_answer.proofs.answering.refused_for_check.Goals as goal
 
-pub returns-in-Some : goal.returns-in-Some
-returns-in-Some c = λ first certificate.
-    let too = rw c.in-Some.is at c.in_ok-_larger.ensures in
-    refused_in_any_case c.args.text.now certificate c.args.reply.bytes.items _ (status_number c.args.reply.status) _ first too
+pub returns-in-Of : goal.returns-in-Of
+returns-in-Of c = λ larger status too.
+    taken_by_solve c.small_texts_are_taken.ensures c.problems_of_texts_are_determined.ensures c.args.text.now c.in-Of._found (rw c.in-Of.is at c.in_ok-_found.ensures)
 
-pub returns-in-None : goal.returns-in-None
-returns-in-None c = λ first. record { fault = first; taken = rw c.in-None.is at c.in_ok-_larger.ensures }
+pub returns-in-Refused : goal.returns-in-Refused
+returns-in-Refused c = λ larger status too certificate.
+    let first = rw c.in-Refused.is at c.in_ok-_found.ensures in
+    refused_in_any_case c.args.text.now certificate c.in-Refused.reply.bytes.items larger (status_number c.in-Refused.reply.status) status first too

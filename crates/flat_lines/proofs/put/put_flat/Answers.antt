@@ -6,7 +6,3 @@ use Rattle.flat_lines.proofs.put.put_flat.Goals as goal
 pub returns-in_err-names-clause-front : goal.returns-in_err-names-clause-front
 returns-in_err-names-clause-front g c =
     nothing_yet c.from_residual.result (g.K.Sink.written c.args.out.now) (flat_bytes (spec_seen c.args.spec.now))
-
-pub returns-in_err-lines-clause-front : goal.returns-in_err-lines-clause-front
-returns-in_err-lines-clause-front g c =
-    nothing_yet c.from_residual-in_err-lines.result (g.K.Sink.written c.args.out.now) (flat_bytes (spec_seen c.args.spec.now))

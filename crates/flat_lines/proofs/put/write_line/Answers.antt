@@ -1,4 +1,4 @@
-use Rattle.std.proofs.Common.{ℕ, List, length, subst, sym}
+use Rattle.std.proofs.Common.{length, subst, sym}
 use Rattle.ltl_formula.specs.Nodes.{tree_at}
 use Rattle.ltl_formula.specs.Tree.{SignalsBelow}
 use Rattle.ltl_formula.proofs.ListSignals.{signals_of_lists_are_kept}
@@ -12,4 +12,4 @@ write_formula-requires-clause-named c =
     let id = c.in-Formula.id in
     let below = signals_of_lists_are_kept.of_formulas (length (all_names (spec_seen c.args.spec.now).expanded)) nodes id
     c.requires.writable.list c.requires.writable.named (subst (LineStands nodes) c.in-Formula.is c.requires.stands) in
-    subst (λ (ns : List (List ℕ)). SignalsBelow (length ns) (tree_at nodes id)) (sym c.requires.names) below
+    subst (λ n. SignalsBelow n (tree_at nodes id)) (sym c.requires.names) below

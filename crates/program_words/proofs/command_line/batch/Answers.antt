@@ -12,4 +12,5 @@ returns c =
     let four = with_more _ _ _ _ _ three c.in_ok-arg-4.ensures c.option-3.ensures.rule c.option-3.ensures.own in
     let five = with_more _ _ _ _ _ four c.in_ok-arg-5.ensures c.option-4.ensures.rule c.option-4.ensures.own in
     let six = with_more _ _ _ _ _ five c.in_ok-arg-6.ensures c.option-5.ensures.rule c.option-5.ensures.own in
-    IfOk-weaker c.arg-7.result _ _ (λ new adds. with_more _ _ _ _ _ six adds c.option-6.ensures.rule c.option-6.ensures.own) c.arg-7.ensures
+    let seven = with_more _ _ _ _ _ six c.in_ok-arg-7.ensures c.option-6.ensures.rule c.option-6.ensures.own in
+    IfOk-weaker c.arg-8.result _ _ (λ new adds. with_more _ _ _ _ _ seven adds c.option-7.ensures.rule c.option-7.ensures.own) c.arg-8.ensures

@@ -6,4 +6,7 @@ use Rattle.program_words.proofs.command_line.expand.Goals as goal
 pub returns : goal.returns
 returns c =
     let none = started c.new.result (codes "expand") c.new.ensures.app c.new.ensures.local in
-    IfOk-weaker c.arg.result _ _ (λ new adds. with_more _ _ _ _ _ none adds c.required.ensures.rule c.required.ensures.own) c.arg.ensures
+    let one = with_more _ _ _ _ _ none c.in_ok-arg.ensures c.required.ensures.rule c.required.ensures.own in
+    let two = with_more _ _ _ _ _ one c.in_ok-arg-2.ensures c.flag.ensures.rule c.flag.ensures.own in
+    let three = with_more _ _ _ _ _ two c.in_ok-arg-3.ensures c.option.ensures.rule c.option.ensures.own in
+    IfOk-weaker c.arg-4.result _ _ (λ new adds. with_more _ _ _ _ _ three adds c.flag-2.ensures.rule c.flag-2.ensures.own) c.arg-4.ensures

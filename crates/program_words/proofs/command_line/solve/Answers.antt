@@ -10,4 +10,5 @@ returns c =
     let two = with_more _ _ _ _ _ one c.in_ok-arg-2.ensures c.option.ensures.rule c.option.ensures.own in
     let three = with_more _ _ _ _ _ two c.in_ok-arg-3.ensures c.option-2.ensures.rule c.option-2.ensures.own in
     let four = with_more _ _ _ _ _ three c.in_ok-arg-4.ensures c.option-3.ensures.rule c.option-3.ensures.own in
-    IfOk-weaker c.arg-5.result _ _ (λ new adds. with_more _ _ _ _ _ four adds c.option-4.ensures.rule c.option-4.ensures.own) c.arg-5.ensures
+    let five = with_more _ _ _ _ _ four c.in_ok-arg-5.ensures c.option-4.ensures.rule c.option-4.ensures.own in
+    IfOk-weaker c.arg-6.result _ _ (λ new adds. with_more _ _ _ _ _ five adds c.option-5.ensures.rule c.option-5.ensures.own) c.arg-6.ensures

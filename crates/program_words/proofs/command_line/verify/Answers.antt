@@ -8,4 +8,5 @@ returns c =
     let none = started c.new.result (codes "verify") c.new.ensures.app c.new.ensures.local in
     let one = with_more _ _ _ _ _ none c.in_ok-arg.ensures c.required.ensures.rule c.required.ensures.own in
     let two = with_more _ _ _ _ _ one c.in_ok-arg-2.ensures c.required-2.ensures.rule c.required-2.ensures.own in
-    IfOk-weaker c.arg-3.result _ _ (λ new adds. with_more _ _ _ _ _ two adds c.flag.ensures.rule c.flag.ensures.own) c.arg-3.ensures
+    let three = with_more _ _ _ _ _ two c.in_ok-arg-3.ensures c.option.ensures.rule c.option.ensures.own in
+    IfOk-weaker c.arg-4.result _ _ (λ new adds. with_more _ _ _ _ _ three adds c.flag.ensures.rule c.flag.ensures.own) c.arg-4.ensures

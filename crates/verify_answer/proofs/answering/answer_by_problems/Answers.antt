@@ -4,7 +4,7 @@ use Rattle.verify_answer.proofs.answering.answer_by_problems.Goals as goal
 pub returns-in-Of : goal.returns-in-Of
 returns-in-Of c = λ unnamed.
     let taken = rw c.in-Of.is at c.in_ok-found.ensures in
-    c.listed_answer.ensures c.args.text.now taken unnamed
+    c.listed_answer.ensures c.args.text.now c.args.given taken unnamed
 
 pub returns-in-Refused : goal.returns-in-Refused
 returns-in-Refused c = λ unnamed.

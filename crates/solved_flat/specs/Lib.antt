@@ -1,0 +1,5 @@
+pub mod Expand
+pub mod Lasso
+pub mod Taken
+pub mod Shown
+pub mod Laws
