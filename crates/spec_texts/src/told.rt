@@ -7,6 +7,7 @@ use crate::beside::{Taken, take_text};
 use crate::faults::TextFault;
 use crate::sections::FlatLines;
 use machine_table::Shown;
+use names_and_numbers::Name;
 use std::alloc::{AllocError, Global};
 use tlsf_tokens::{Symbol, tokens};
 
