@@ -4,15 +4,10 @@ use Rattle.propositional_logic.specs.Literal.{Literal}
 use Rattle.refutation_log.specs.declared.entries.Entry.{Entry}
 use Rattle.refutation_log.specs.Log.{IsClosed}
 use Rattle.truth_witness.specs.declared.witnesses.Obligation.{Obligation}
+use Rattle.truth_witness.specs.Logs.{ObligationLog}
 use Rattle.truth_witness.specs.Witness.{Claim}
 use Rattle.truth_witness.specs.Obligations.{clauses_of, variables_of}
 use Rattle.witness_check.specs.Order.{obligation_at, obligation_count, place_of}
-
--- a log with the numbers of variables and of base clauses that its head says
-pub record ObligationLog : Type 0 where
-  pub vars : ℕ
-  pub base : ℕ
-  pub entries : List Entry
 
 -- the log at a place
 abbrev pub log_at : List ObligationLog → ℕ → ObligationLog
@@ -32,6 +27,10 @@ pub record HoldsOver (vars : ℕ) (clauses : List (List Literal)) (log : Obligat
 abbrev pub HoldsAt : Claim → List ObligationLog → ℕ → Type 0
 HoldsAt x logs k = HoldsOver (variables_of x (obligation_at k)) (clauses_of x (obligation_at k)) (log_at logs k)
 
+-- each of the first n logs holds
+abbrev pub FirstHold : Claim → List ObligationLog → ℕ → Type 0
+FirstHold x logs n = (k : ℕ) → k < n → HoldsAt x logs k
+
 -- each log holds
 abbrev pub AllHold : Claim → List ObligationLog → Type 0
-AllHold x logs = (k : ℕ) → k < obligation_count x.witness → HoldsAt x logs k
+AllHold x logs = FirstHold x logs (obligation_count x.witness)
