@@ -60,7 +60,7 @@ _boundsyn_show() {
     local word=${COMP_WORDS[COMP_CWORD]} last=${COMP_WORDS[COMP_CWORD - 1]} values=""
     COMPREPLY=()
     case $last in
-    --reset) values="none sync async" ;;
+    --reset) values="none sync async sync-low async-low" ;;
     --rounds) values="1 2 5 10 100" ;;
     --text | --without | --module | --proofs) return ;;
     *)

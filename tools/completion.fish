@@ -49,7 +49,7 @@ end
 for word in module proofs text without
     complete -c boundsyn-show -l $word -x
 end
-complete -c boundsyn-show -l reset -x -a 'none sync async'
+complete -c boundsyn-show -l reset -x -a 'none sync async sync-low async-low'
 complete -c boundsyn-show -l rounds -x -a '1 2 5 10 100'
 
 complete -c annotate -l help

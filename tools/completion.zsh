@@ -58,7 +58,7 @@ _boundsyn_words() {
 _boundsyn_show_words() {
     local -a values
     case $words[CURRENT-1] in
-    --reset) values=(none sync async) ;;
+    --reset) values=(none sync async sync-low async-low) ;;
     --rounds) values=(1 2 5 10 100) ;;
     --text | --without | --module | --proofs) return 1 ;;
     *)

@@ -22,7 +22,10 @@ const BESIDE: [(&str, &str); 8] = [
     ("rounds", "vcd wave against"),
     ("module", "verilog"),
     ("reset", "verilog"),
-    ("spec", "html smv verilog proofs ltl tlsf apart dual lint"),
+    (
+        "spec",
+        "summary json html smv verilog proofs ltl tlsf apart dual lint",
+    ),
 ];
 
 /// Why words aren't taken.

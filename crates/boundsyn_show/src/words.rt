@@ -1,8 +1,9 @@
 //! The words of the command line.
 
 use crate::options::{Given, WordsFault};
+use gate_modules::{Level, Reset};
 use machine_table::Choice;
-use machine_views::{PlayView, Reset};
+use machine_views::PlayView;
 use spec_texts::Form;
 
 /// What the words ask for.
@@ -190,10 +191,14 @@ fn module_of<'a>(given: &Given<'a>) -> Result<&'a str, WordsFault<'a>> {
 
 fn reset_of<'a>(given: &Given<'a>) -> Result<Reset, WordsFault<'a>> {
     match given.value("reset") {
-        None => Ok(Reset::Synchronous),
-        Some("sync") => Ok(Reset::Synchronous),
-        Some("async") => Ok(Reset::Asynchronous),
+        None | Some("sync") => Ok(Reset::Synchronous(Level::High)),
+        Some("sync-low") => Ok(Reset::Synchronous(Level::Low)),
+        Some("async") => Ok(Reset::Asynchronous(Level::High)),
+        Some("async-low") => Ok(Reset::Asynchronous(Level::Low)),
         Some("none") => Ok(Reset::Initial),
-        Some(other) => bad(other, "isn't a reset: none, sync or async"),
+        Some(other) => bad(
+            other,
+            "isn't a reset: none, sync, async, sync-low or async-low",
+        ),
     }
 }

@@ -39,12 +39,13 @@ tr.taken td { background: var(--soft); font-weight: 700; }\n\
 tr.taken td:first-child { box-shadow: inset 3px 0 var(--mark); }\n\
 td:first-child, th:first-child { padding-left: .5rem; position: sticky; left: 0; background: var(--paper); }\n\
 tr.here td:first-child, tr.taken td:first-child { background: var(--soft); }\n\
-#now { border-left: 4px solid var(--mark); padding-left: .8rem; margin: .5rem 0 .8rem; }\n\
-svg { display: block; color: var(--ink); }\n"
+#remarks { border-left: 4px solid var(--owed); padding-left: .8rem; margin: .5rem 0 .8rem; }\n\
+#now { border-left: 4px solid var(--mark); padding-left: .8rem; margin: .5rem 0 .8rem; }\n"
 }
 
 fn front_1() -> &'static str {
-    "#graph svg { width: 100%; height: auto; }\n\
+    "svg { display: block; color: var(--ink); }\n\
+#graph svg { width: 100%; height: auto; }\n\
 #drawn-it { display: flex; flex-wrap: wrap; gap: 0 2rem; }\n\
 #graph { flex: 1 1 22rem; min-width: 0; }\n\
 #arrows { flex: 0 1 auto; min-width: 0; }\n\
@@ -79,15 +80,16 @@ svg .tick { stroke: var(--line); stroke-width: 1; }\n\
 <h1 id=\"title\">A machine</h1>\n\
 <p id=\"what\"></p>\n\
 <p id=\"verdict\" class=\"quiet\"></p>\n\
+<div id=\"remarks\" hidden></div>\n\
 <main>\n\
 <section aria-labelledby=\"play\">\n\
-<h2 id=\"play\">Play</h2>\n\
-<div id=\"now\">\n\
-<p>State <strong id=\"state\">0</strong>, step <span id=\"count\">0</span>.</p>\n"
+<h2 id=\"play\">Play</h2>\n"
 }
 
 fn front_2() -> &'static str {
-    "<p><span id=\"writes-word\">Writes</span> <strong id=\"written\">-</strong>, and goes to state <span id=\"next\">0</span>.</p>\n\
+    "<div id=\"now\">\n\
+<p>State <strong id=\"state\">0</strong>, step <span id=\"count\">0</span>.</p>\n\
+<p><span id=\"writes-word\">Writes</span> <strong id=\"written\">-</strong>, and goes to state <span id=\"next\">0</span>.</p>\n\
 </div>\n\
 <p id=\"ask\" class=\"quiet\"></p>\n\
 <div id=\"inputs\" role=\"group\" aria-labelledby=\"ask\"></div>\n\
@@ -770,15 +772,18 @@ function build() {\n\
 \x20\x20document.title = find(\"title\").textContent;\n\
 \x20\x20find(\"verdict\").textContent = machine.verdict;\n\
 \x20\x20find(\"writes-word\").textContent = isCounter ? \"The environment writes\" : \"Writes\";\n\
+\x20\x20const remarks = (machine.remarks || []).map((line) => `${line[0].toUpperCase()}${line.slice(1)}.`);\n\
+\x20\x20paragraphs(\"remarks\", remarks);\n\
+\x20\x20find(\"remarks\").hidden = remarks.length === 0;\n\
 \x20\x20// (a machine of one state has no smaller ones)\n\
-\x20\x20paragraphs(\"sizes\", machine.sizes.length || count === 1 ? machine.sizes : [\"No smaller size was looked at.\"]);\n\
-\x20\x20find(\"knowledge\").hidden = machine.sizes.length === 0 && count === 1;\n\
-\x20\x20buildPromises();\n\
-\x20\x20buildInputs();\n"
+\x20\x20paragraphs(\"sizes\", machine.sizes.length || count === 1 ? machine.sizes : [\"No smaller size was looked at.\"]);\n"
 }
 
 fn back_15() -> &'static str {
-    "\x20\x20buildTable();\n\
+    "\x20\x20find(\"knowledge\").hidden = machine.sizes.length === 0 && count === 1;\n\
+\x20\x20buildPromises();\n\
+\x20\x20buildInputs();\n\
+\x20\x20buildTable();\n\
 \x20\x20drawGraph();\n\
 \x20\x20[\"step\", \"back\", \"reset\", \"random\"].forEach((name) => find(name).addEventListener(\"click\", () => act(name)));\n\
 \x20\x20document.addEventListener(\"keydown\", (event) => {\n\
