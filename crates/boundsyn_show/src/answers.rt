@@ -5,9 +5,10 @@ use crate::remarks::remarks_on;
 use crate::words::{Asked, MachineTask};
 use gate_modules::Reset;
 use input_output::{FileShelf, Shelf, ShelfFault};
+use letters_and_lassos::Side;
 use machine_remarks::empty_sections;
 use machine_table::{Choice, Part, ShowFault, Shown, Text, chosen_circuit, read_shown};
-use machine_views::{ModuleView, TextView, View, WordView, show};
+use machine_views::{ChecksView, ModuleView, TextView, View, WordView, show};
 use outcome_news::Remarks;
 use program_customs::file_of;
 use shown_text::push_shown;
@@ -22,6 +23,9 @@ const NO_ASSUMPTIONS: &str =
 
 const NO_GUARANTEES: &str =
     "PRESET, ASSERT and GUARANTEE together are true on no word, so no controller keeps them";
+
+const NO_PROMISES: &str =
+    "the machine is a counter-machine, which keeps none of the promises that --assert checks";
 
 /// The bytes of a file.
 fn bytes_of<R: Files>(rt: &R, alloc: Global, name: &str) -> Result<Vec<u8>, Fault> {
@@ -148,13 +152,18 @@ fn view_text(
                 show(alloc, shown, View::Page(Some(TextView { told, remarks })))
             }
         },
-        Asked::Verilog(name, reset) => match beside {
-            None => module_text(alloc, shown, name, reset, None),
-            Some(text) => {
-                let told = Told::of(alloc, text, Some(shown))?;
-                module_text(alloc, shown, name, reset, Some(&told))
+        Asked::Verilog(name, reset, is_checked) => {
+            let module = ModuleView {
+                name,
+                reset,
+                title: None,
+                checks: None,
+            };
+            match beside {
+                None => show(alloc, shown, View::Verilog(module)),
+                Some(text) => module_text(alloc, shown, module, text, is_checked),
             }
-        },
+        }
         _ => show(
             alloc,
             shown,
@@ -176,19 +185,27 @@ fn asked_remarks(
     Ok(Some(remarks_on(alloc, shown, text, &told)?))
 }
 
-/// A module of Verilog, with the title of the text that the machine is for.
-fn module_text<'a>(
+/// A module of Verilog, with the title of the text that the machine is for, and if that is asked for with a module that checks the text.
+fn module_text(
     alloc: Global,
     shown: &Shown,
-    name: &'a str,
-    reset: Reset,
-    about: Option<&'a Told>,
+    module: ModuleView<'_>,
+    text: &[u8],
+    is_checked: bool,
 ) -> Result<Vec<u8>, TextFault> {
-    let title = match about {
-        None => None,
-        Some(told) => Some(told.title.as_str()),
+    if is_checked && matches!(shown.side(), Some(Side::Environment)) {
+        return Err(TextFault::NoSuchForm(NO_PROMISES));
+    }
+    let told = Told::of(alloc, text, Some(shown))?;
+    let checks = ChecksView {
+        text,
+        lines: &told.lines,
     };
-    let module = ModuleView { name, reset, title };
+    let module = ModuleView {
+        title: Some(&told.title),
+        checks: if is_checked { Some(checks) } else { None },
+        ..module
+    };
     show(alloc, shown, View::Verilog(module))
 }
 

@@ -40,8 +40,8 @@ pub enum Asked<'a> {
     /// What the machine does on a word, with so many rounds of its ring.
     Vcd(u32),
     Wave(u32),
-    /// A module of that name.
-    Verilog(&'a str, Reset),
+    /// A module of that name, with one that checks the text if that is asked for.
+    Verilog(&'a str, Reset, bool),
     Html,
     Smv,
     /// A play against another machine.
@@ -146,7 +146,7 @@ fn asked_by<'a>(given: &Given<'a>, view: &str) -> Result<Asked<'a>, WordsFault<'
         "smv" => Ok(Asked::Smv),
         "vcd" => Ok(Asked::Vcd(rounds_of(given)?)),
         "wave" => Ok(Asked::Wave(rounds_of(given)?)),
-        "verilog" => Ok(Asked::Verilog(module_of(given)?, reset_of(given)?)),
+        "verilog" => Ok(Asked::Verilog(module_of(given)?, reset_of(given)?, is_checked(given)?)),
         "against" => Ok(Asked::Against(play_of(given)?)),
         "proofs" => match (given.value("proofs"), given.has("spec")) {
             (Some(prefix), true) => Ok(Asked::Proofs(prefix)),
@@ -187,6 +187,13 @@ fn module_of<'a>(given: &Given<'a>) -> Result<&'a str, WordsFault<'a>> {
         return bad(name, "isn't the name of a module");
     }
     Ok(name)
+}
+
+fn is_checked<'a>(given: &Given<'a>) -> Result<bool, WordsFault<'a>> {
+    match (given.has("assert"), given.has("spec")) {
+        (true, false) => bad("--assert", "wants --spec SPEC beside it"),
+        (is_asked, _) => Ok(is_asked),
+    }
 }
 
 fn reset_of<'a>(given: &Given<'a>) -> Result<Reset, WordsFault<'a>> {

@@ -17,8 +17,8 @@ pub struct Port<'a> {
 /// The names of the signals of one sort as printable text.
 #[derive(Drop)]
 pub struct Labels {
-    inputs: Vec<String>,
-    outputs: Vec<String>,
+    pub inputs: Vec<String>,
+    pub outputs: Vec<String>,
 }
 
 /// The ports of the signals, and the signals as expressions.

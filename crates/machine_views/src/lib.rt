@@ -30,5 +30,5 @@ mod views;
 mod wave;
 
 pub use plays::PlayView;
-pub use verilog::ModuleView;
+pub use verilog::{ChecksView, ModuleView};
 pub use views::{TextView, View, WordView, show};

@@ -9,6 +9,7 @@ use gate_modules::{GateNames, Labels, Ports, Reset, free_front, free_name, ident
 use letters_and_lassos::Kind;
 use machine_table::{Machine, Part, ShowFault, Shown, SolvedDocument, Text};
 use std::alloc::{AllocError, Global};
+use verilog_checks::{CheckedText, put_checks};
 
 /// A module of that name.
 #[derive(Clone, Copy)]
@@ -17,6 +18,15 @@ pub struct ModuleView<'a> {
     pub reset: Reset,
     /// The title of the text that the machine is for.
     pub title: Option<&'a str>,
+    /// The text that a module beside it checks.
+    pub checks: Option<ChecksView<'a>>,
+}
+
+/// A text, with a line for each of its formulas.
+#[derive(Clone, Copy)]
+pub struct ChecksView<'a> {
+    pub text: &'a [u8],
+    pub lines: &'a [String],
 }
 
 /// The module's own names, which no port has.
@@ -30,6 +40,8 @@ pub(crate) struct Names {
     pub(crate) front: String,
     latch: String,
     gate: String,
+    /// The instance of the module that checks it.
+    checks: String,
 }
 
 impl Names {
@@ -42,6 +54,7 @@ impl Names {
             front: free_front(alloc, "S", taken)?,
             latch: free_front(alloc, "L", taken)?,
             gate: free_front(alloc, "N", taken)?,
+            checks: free_name(alloc, "checks", taken)?,
         })
     }
 }
@@ -62,8 +75,76 @@ pub(crate) fn put_verilog(
         }
         (Err(fault), _) => return Err(fault),
     }
-    out.put("endmodule\n");
+    match view.checks {
+        Some(checks) => put_checked(alloc, shown, view, checks, out),
+        None => {
+            out.put("endmodule\n");
+            Ok(())
+        }
+    }
+}
+
+/// Puts the end of the module with an instance of one that checks a text, and that one; both stand there for tools that check alone.
+fn put_checked(
+    alloc: Global,
+    shown: &Shown,
+    view: ModuleView<'_>,
+    checks: ChecksView<'_>,
+    out: &mut Text,
+) -> Result<(), ShowFault> {
+    let labels = Labels::of_machine(alloc, &shown.machine_on(alloc, &[])?)?;
+    let ports = labels.ports(alloc)?;
+    let names = Names::beside(alloc, &ports.names(alloc)?, view.reset)?;
+    let name = format!(in alloc; "{}_checks", view.name)?;
+    let module = ModuleView {
+        name: &name,
+        ..view
+    };
+    put_instance(alloc, module, &ports, &names, out)?;
+    out.put("endmodule\n`ifdef FORMAL\n");
+    put_head(alloc, module, &ports, &names, "input wire", out)?;
+    let checked = CheckedText {
+        text: checks.text,
+        lines: checks.lines,
+        clk: &names.clk,
+        rst: &names.rst,
+        reset: view.reset,
+    };
+    put_checks(alloc, checked, shown, out)?;
+    out.put("endmodule\n`endif\n");
     Ok(())
+}
+
+/// An instance of a module whose ports are called as those of this one.
+fn put_instance(
+    alloc: Global,
+    module: ModuleView<'_>,
+    ports: &Ports<'_>,
+    names: &Names,
+    out: &mut Text,
+) -> Result<(), AllocError> {
+    let name = identifier(alloc, module.name)?;
+    out.fill(
+        "`ifdef FORMAL\n    {} {} (.{}({})",
+        &[
+            Part::Word(&name),
+            Part::Word(&names.checks),
+            Part::Word(&names.clk),
+            Part::Word(&names.clk),
+        ],
+    );
+    if module.reset.level().is_some() {
+        put_connected(&names.rst, out);
+    }
+    for port in ports.inputs.iter().chain(ports.outputs.iter()) {
+        put_connected(&identifier(alloc, port.name)?, out);
+    }
+    out.put(");\n`endif\n");
+    Ok(())
+}
+
+fn put_connected<'a>(name: &'a str, out: &mut Text) {
+    out.fill(", .{}({})", &[Part::Word(name), Part::Word(name)]);
 }
 
 fn put_by_states(
