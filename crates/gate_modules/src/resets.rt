@@ -49,6 +49,14 @@ impl Reset {
         out.put(")\n");
     }
 
+    /// Puts the condition that its signal isn't active.
+    pub fn put_inactive(self, rst: &str, out: &mut Text) {
+        if let Some(Level::High) = self.level() {
+            out.put("!");
+        }
+        out.put(rst);
+    }
+
     /// Puts the condition that its signal is active.
     pub fn put_active(self, rst: &str, out: &mut Text) {
         if let Some(Level::Low) = self.level() {

@@ -11,6 +11,11 @@ use machine_table::{Part, ShowFault, Shown, Text};
 use std::alloc::{AllocError, Global};
 use tlsf_syntax::Sections;
 
+const HEAD: &str =
+    "    // Each assertion counts as long as what is assumed has held, where that is checked. A machine that makes what is assumed fail at a later step, or that
+    // relies on an assumption that isn't checked, may break one that it doesn't owe.
+";
+
 /// A text, with a line for each of its formulas behind the word of its section, and the clock and the reset of a module that checks it.
 #[derive(Clone, Copy)]
 pub struct CheckedText<'a> {
@@ -194,6 +199,7 @@ impl Checks<'_> {
             ..
         } = self;
         let last = u64::from(longest).saturating_add(2);
+        out.put(HEAD);
         put_counters(names, last, checked, out);
         for signal in &values.signals {
             signal.put_declared(&names.past, out);
@@ -297,6 +303,9 @@ fn put_steps(names: &Names, last: u64, checked: CheckedText<'_>, out: &mut Text)
 
 /// What the registers for values of the past have behind an edge.
 fn put_past(values: &Values<'_>, checked: CheckedText<'_>, out: &mut Text) {
+    if !values.signals.iter().any(|signal| signal.has_past()) {
+        return;
+    }
     out.fill(
         "    always @(posedge {}) begin\n",
         &[Part::Word(checked.clk)],
@@ -313,9 +322,8 @@ fn put_asserted(names: &Names, checked: CheckedText<'_>, asserted: &[u8], out: &
         &[Part::Word(checked.clk)],
     );
     if checked.reset.level().is_some() {
-        out.put("!(");
-        checked.reset.put_active(checked.rst, out);
-        out.put(") && ");
+        checked.reset.put_inactive(checked.rst, out);
+        out.put(" && ");
     }
     out.fill(
         "{} != 0 && {}) begin\n",

@@ -47,6 +47,11 @@ impl Signal {
         out.fill(form, &[Part::Word(past), number, Part::Word(&self.label)]);
     }
 
+    /// Whether an older value is asked for.
+    pub(crate) fn has_past(&self) -> bool {
+        self.oldest > 0
+    }
+
     /// Puts a register for each older value.
     pub(crate) fn put_declared(&self, past: &str, out: &mut Text) {
         for ago in 1..=self.oldest {
