@@ -2,7 +2,8 @@
 
 use crate::json::{SIGNS, put_text, put_texts};
 use crate::knowledge::{put_known, put_size};
-use crate::page_text::{back, front};
+use crate::page_back::back;
+use crate::page_front::front;
 use crate::remarks::sentences_on;
 use crate::views::TextView;
 use letters_and_lassos::Side;
