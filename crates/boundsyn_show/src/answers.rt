@@ -186,11 +186,11 @@ fn asked_remarks(
 }
 
 /// A module of Verilog, with the title of the text that the machine is for, and if that is asked for with a module that checks the text.
-fn module_text(
+fn module_text<'a>(
     alloc: Global,
     shown: &Shown,
-    module: ModuleView<'_>,
-    text: &[u8],
+    module: ModuleView<'a>,
+    text: &'a [u8],
     is_checked: bool,
 ) -> Result<Vec<u8>, TextFault> {
     if is_checked && matches!(shown.side(), Some(Side::Environment)) {
