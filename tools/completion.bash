@@ -30,17 +30,18 @@ _boundsyn() {
     for ((at = 1; at < COMP_CWORD; at++)); do
         case ${COMP_WORDS[at]} in
         --progress | --quiet | --verbose) ;;
+        -o | --output) ((at += 1)) ;;
         *)
             command=${COMP_WORDS[at]}
             break
             ;;
         esac
     done
-    if [[ -z $command ]]; then
-        values="solve synth check expand lasso gen bench verify core batch --progress --quiet --verbose --help --version"
-    elif [[ $command:$last == batch:--solve ]]; then
+    if [[ $last == -o || $last == --output || $command:$last == batch:--solve ]]; then
         mapfile -t COMPREPLY < <(compgen -f -- "$word")
         return
+    elif [[ -z $command ]]; then
+        values="solve synth check expand lasso gen bench verify core batch --progress --quiet --verbose --output -o --help --version"
     elif [[ $last == --* && $last != --unrealizable && $last != --solve && $last != --nodes ]]; then
         values=$(_boundsyn_values "$command" "$last")
     elif [[ $word == -* ]]; then
@@ -60,7 +61,7 @@ _boundsyn_show() {
     local word=${COMP_WORDS[COMP_CWORD]} last=${COMP_WORDS[COMP_CWORD - 1]} values=""
     COMPREPLY=()
     case $last in
-    --reset) values="none sync async" ;;
+    --reset) values="none sync async sync-low async-low" ;;
     --rounds) values="1 2 5 10 100" ;;
     --text | --without | --module | --proofs) return ;;
     *)
@@ -69,7 +70,8 @@ _boundsyn_show() {
             return
         fi
         values="--table --dot --json --hoa --circuit --verilog --module --reset --smv --html --wave --vcd --rounds --against --word --proofs"
-        values+=" --text --core --without --spec --ltl --tlsf --apart --dual --lint --help --version"
+        values+=" --text --core --without --spec --ltl --tlsf --apart --dual --lint --assert --help --version"
+        [[ $COMP_CWORD != 1 ]] || values+=" --output -o"
         ;;
     esac
     mapfile -t COMPREPLY < <(compgen -W "$values" -- "$word")
@@ -79,7 +81,7 @@ _annotate() {
     local word=${COMP_WORDS[COMP_CWORD]}
     COMPREPLY=()
     if [[ $COMP_CWORD == 1 && $word == -* ]]; then
-        mapfile -t COMPREPLY < <(compgen -W "--help --version" -- "$word")
+        mapfile -t COMPREPLY < <(compgen -W "--output -o --help --version" -- "$word")
     else
         mapfile -t COMPREPLY < <(compgen -f -- "$word")
     fi

@@ -3,9 +3,16 @@
 
 # The command of boundsyn, behind the words of the program's own.
 function __boundsyn_command
+    set -l names_output no
     for word in (commandline -opc)[2..-1]
+        if test $names_output = yes
+            set names_output no
+            continue
+        end
         switch $word
             case --progress --quiet --verbose
+            case -o --output
+                set names_output yes
             case '*'
                 echo $word
                 return 0
@@ -20,10 +27,16 @@ function __boundsyn_is
     contains -- $command $argv
 end
 
+# Whether no word stands behind the program's name yet.
+function __boundsyn_is_first
+    test (count (commandline -opc)) = 1
+end
+
 complete -c boundsyn -n 'not __boundsyn_command' -f -a 'solve synth check expand lasso gen bench verify core batch'
 for word in progress quiet verbose help version
     complete -c boundsyn -n 'not __boundsyn_command' -f -l $word
 end
+complete -c boundsyn -n 'not __boundsyn_command' -s o -l output -r
 complete -c boundsyn -n '__boundsyn_is solve' -l max -x -a '(seq 0 16)'
 complete -c boundsyn -n '__boundsyn_is synth core' -l max -x -a '(seq 8)'
 complete -c boundsyn -n '__boundsyn_is batch' -l max -x -a '(seq 4)'
@@ -40,17 +53,19 @@ complete -c boundsyn -n '__boundsyn_is verify' -l unrealizable
 complete -c boundsyn -n '__boundsyn_is gen' -f -a '(seq 8)'
 complete -c boundsyn -n '__boundsyn_is bench' -f -a '(seq 4)'
 
-for word in table dot json hoa circuit verilog smv html core ltl tlsf apart dual lint word help version
+for word in table dot json hoa circuit verilog smv html core ltl tlsf apart dual lint word assert help version
     complete -c boundsyn-show -l $word
 end
+complete -c boundsyn-show -n __boundsyn_is_first -s o -l output -r
 for word in wave vcd against spec
     complete -c boundsyn-show -l $word -r
 end
 for word in module proofs text without
     complete -c boundsyn-show -l $word -x
 end
-complete -c boundsyn-show -l reset -x -a 'none sync async'
+complete -c boundsyn-show -l reset -x -a 'none sync async sync-low async-low'
 complete -c boundsyn-show -l rounds -x -a '1 2 5 10 100'
 
 complete -c annotate -l help
 complete -c annotate -l version
+complete -c annotate -n __boundsyn_is_first -s o -l output -r

@@ -36,11 +36,15 @@ _boundsyn_words() {
     for ((at = 2; at < CURRENT; at++)); do
         case $words[at] in
         --progress | --quiet | --verbose) ;;
+        -o | --output) ((at += 1)) ;;
         *) command=$words[at]; break ;;
         esac
     done
-    if [[ -z $command ]]; then
-        values=(solve synth check expand lasso gen bench verify core batch --progress --quiet --verbose --help --version)
+    if [[ $last == (-o|--output) ]]; then
+        _files
+        return
+    elif [[ -z $command ]]; then
+        values=(solve synth check expand lasso gen bench verify core batch --progress --quiet --verbose --output -o --help --version)
     elif _boundsyn_values $command $last; then
     elif [[ $word == -* ]]; then
         _boundsyn_options $command
@@ -58,13 +62,14 @@ _boundsyn_words() {
 _boundsyn_show_words() {
     local -a values
     case $words[CURRENT-1] in
-    --reset) values=(none sync async) ;;
+    --reset) values=(none sync async sync-low async-low) ;;
     --rounds) values=(1 2 5 10 100) ;;
     --text | --without | --module | --proofs) return 1 ;;
     *)
         [[ $words[CURRENT] == -* ]] || { _files; return }
         values=(--table --dot --json --hoa --circuit --verilog --module --reset --smv --html --wave --vcd --rounds --against --word --proofs
-            --text --core --without --spec --ltl --tlsf --apart --dual --lint --help --version)
+            --text --core --without --spec --ltl --tlsf --apart --dual --lint --assert --help --version)
+        ((CURRENT != 2)) || values+=(--output -o)
         ;;
     esac
     compadd -- $values
@@ -72,7 +77,7 @@ _boundsyn_show_words() {
 
 _annotate_words() {
     if ((CURRENT == 2)) && [[ $words[CURRENT] == -* ]]; then
-        compadd -- --help --version
+        compadd -- --output -o --help --version
     else
         _files
     fi

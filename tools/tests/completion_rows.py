@@ -12,7 +12,9 @@ from script_room import TOOLS
 OFFERED = {
     ("boundsyn", "s"): "solve synth",
     ("boundsyn", "--quiet", "ex"): "expand",
-    ("boundsyn", "--"): "--progress --quiet --verbose --help --version",
+    ("boundsyn", "-"): "--progress --quiet --verbose --output -o --help --version",
+    ("boundsyn", "--output", "file", "--quiet", "ex"): "expand",
+    ("boundsyn", "-o", "file", "solve", "--kind", ""): "mealy moore",
     ("boundsyn", "solve", "text", "--"): "--max --entries --workers --kind --seconds",
     ("boundsyn", "--verbose", "synth", "--"): "--max --entries --workers --kind --counts",
     ("boundsyn", "core", "--"): "--max --entries --workers --kind --counts",
@@ -28,9 +30,12 @@ OFFERED = {
     ("boundsyn", "solve", "--kind", ""): "mealy moore",
     ("boundsyn", "core", "--counts", ""): "whole local",
     ("boundsyn", "bench", ""): "1 2 3 4",
-    ("boundsyn-show", "document", "--reset", ""): "none sync async",
+    ("boundsyn-show", "document", "--reset", ""): "none sync async sync-low async-low",
     ("boundsyn-show", "document", "--ver"): "--verilog --version",
-    ("annotate", "-"): "--help --version",
+    ("boundsyn-show", "document", "--verilog", "--as"): "--assert",
+    ("boundsyn-show", "--he"): "--help",
+    ("boundsyn-show", "--ou"): "--output",
+    ("annotate", "-"): "--output -o --help --version",
 }
 BASH = 'source {0}; COMP_WORDS=({1}); COMP_CWORD={2}; _{3}; printf "%s\\n" "${{COMPREPLY[@]}}"'
 ZSH = 'compdef() {{ }}; compadd() {{ shift; print -l -- $@ }}; _files() {{ }}; source {0}; words=({1}); CURRENT=$#words; service=$words[1]; _boundsyn_programs'

@@ -1,10 +1,15 @@
 //! What is written, of the files that are named.
 
 use crate::faults::{Fault, File};
+use crate::remarks::remarks_on;
 use crate::words::{Asked, MachineTask};
+use gate_modules::Reset;
 use input_output::{FileShelf, Shelf, ShelfFault};
+use letters_and_lassos::Side;
+use machine_remarks::empty_sections;
 use machine_table::{Choice, Part, ShowFault, Shown, Text, chosen_circuit, read_shown};
-use machine_views::{ModuleView, Reset, View, WordView, show};
+use machine_views::{ChecksView, ModuleView, TextView, View, WordView, show};
+use outcome_news::Remarks;
 use program_customs::file_of;
 use shown_text::push_shown;
 use spec_texts::{Form, SpecText, TextFault, Told, proof_files, spec_text};
@@ -12,6 +17,15 @@ use std::alloc::{AllocError, Global};
 use std::fs;
 use std::rt::Files;
 use text_lint::{Lint, lint_of};
+
+const NO_ASSUMPTIONS: &str =
+    "INITIALLY, REQUIRE and ASSUME together are true on no word, so of the guarantees nothing is ever owed";
+
+const NO_GUARANTEES: &str =
+    "PRESET, ASSERT and GUARANTEE together are true on no word, so no controller keeps them";
+
+const NO_PROMISES: &str =
+    "the machine is a counter-machine, which keeps none of the promises that --assert checks";
 
 /// The bytes of a file.
 fn bytes_of<R: Files>(rt: &R, alloc: Global, name: &str) -> Result<Vec<u8>, Fault> {
@@ -114,7 +128,11 @@ fn view_text(
 ) -> Result<Vec<u8>, TextFault> {
     let text = beside.unwrap_or(&[]);
     match asked {
-        Asked::Json => show(alloc, shown, View::Json),
+        Asked::Json => show(
+            alloc,
+            shown,
+            View::Json(asked_remarks(alloc, shown, beside)?),
+        ),
         Asked::Table => show(alloc, shown, View::Table),
         Asked::Dot => show(alloc, shown, View::Dot),
         Asked::Hoa => show(alloc, shown, View::Hoa),
@@ -129,33 +147,65 @@ fn view_text(
             None => show(alloc, shown, View::Page(None)),
             Some(text) => {
                 let told = Told::of(alloc, text, Some(shown))?;
-                show(alloc, shown, View::Page(Some(&told)))
+                let remarks = remarks_on(alloc, shown, text, &told)?;
+                let told = &told;
+                show(alloc, shown, View::Page(Some(TextView { told, remarks })))
             }
         },
-        Asked::Verilog(name, reset) => match beside {
-            None => module_text(alloc, shown, name, reset, None),
-            Some(text) => {
-                let told = Told::of(alloc, text, Some(shown))?;
-                module_text(alloc, shown, name, reset, Some(&told))
+        Asked::Verilog(name, reset, is_checked) => {
+            let module = ModuleView {
+                name,
+                reset,
+                title: None,
+                checks: None,
+            };
+            match beside {
+                None => show(alloc, shown, View::Verilog(module)),
+                Some(text) => module_text(alloc, shown, module, text, is_checked),
             }
-        },
-        _ => show(alloc, shown, View::Summary),
+        }
+        _ => show(
+            alloc,
+            shown,
+            View::Summary(asked_remarks(alloc, shown, beside)?),
+        ),
     }
 }
 
-/// A module of Verilog, with the title of the text that the machine is for.
+/// What is so of the machine by a text, where one is given.
+fn asked_remarks(
+    alloc: Global,
+    shown: &Shown,
+    text: Option<&[u8]>,
+) -> Result<Option<Remarks>, TextFault> {
+    let Some(text) = text else {
+        return Ok(None);
+    };
+    let told = Told::of(alloc, text, Some(shown))?;
+    Ok(Some(remarks_on(alloc, shown, text, &told)?))
+}
+
+/// A module of Verilog, with the title of the text that the machine is for, and if that is asked for with a module that checks the text.
 fn module_text<'a>(
     alloc: Global,
     shown: &Shown,
-    name: &'a str,
-    reset: Reset,
-    about: Option<&'a Told>,
+    module: ModuleView<'a>,
+    text: &'a [u8],
+    is_checked: bool,
 ) -> Result<Vec<u8>, TextFault> {
-    let title = match about {
-        None => None,
-        Some(told) => Some(told.title.as_str()),
+    if is_checked && matches!(shown.side(), Some(Side::Environment)) {
+        return Err(TextFault::NoSuchForm(NO_PROMISES));
+    }
+    let told = Told::of(alloc, text, Some(shown))?;
+    let checks = ChecksView {
+        text,
+        lines: &told.lines,
     };
-    let module = ModuleView { name, reset, title };
+    let module = ModuleView {
+        title: Some(&told.title),
+        checks: if is_checked { Some(checks) } else { None },
+        ..module
+    };
     show(alloc, shown, View::Verilog(module))
 }
 
@@ -243,11 +293,23 @@ fn lint_text(alloc: Global, file: File<'_>) -> Result<SpecText, TextFault> {
     for lint in &lint_of(alloc, file.bytes)? {
         push_lint(&mut out, &shown, lint);
     }
+    let empty = empty_sections(alloc, file.bytes)?;
+    if empty.assumptions {
+        push_empty(&mut out, &shown, NO_ASSUMPTIONS);
+    }
+    if empty.guarantees {
+        push_empty(&mut out, &shown, NO_GUARANTEES);
+    }
     Ok(SpecText {
         bytes: out.finish()?,
         taken: about.taken,
         note: None,
     })
+}
+
+/// A line on the whole text.
+fn push_empty<'a>(out: &mut Text, shown: &'a str, what: &'a str) {
+    out.fill("{}: note: {}\n", &[Part::Word(shown), Part::Word(what)]);
 }
 
 /// The line of one such thing.

@@ -12,8 +12,8 @@ use std::io::{self, Error, ErrorKind};
 
 pub(crate) const USAGE: &str =
     "usage: boundsyn-show DOC [--text NAME | --core | --without J] [VIEW], where VIEW is one of
-    --table | --dot | --json | --hoa | --circuit | --html [--spec SPEC] | --smv [--spec SPEC]
-    --verilog [--module NAME] [--reset none | sync | async] [--spec SPEC]
+    --spec SPEC | --json [--spec SPEC] | --table | --dot | --hoa | --circuit | --html [--spec SPEC] | --smv [--spec SPEC]
+    --verilog [--module NAME] [--reset none | sync | async | sync-low | async-low] [--spec SPEC [--assert]]
     --vcd WORD [--rounds N] | --wave WORD [--rounds N] | --against CIRCUIT [--vcd | --word] [--rounds N] | --proofs PREFIX --spec SPEC
 or boundsyn-show --spec SPEC --ltl | --tlsf | --apart | --dual | --lint
 or boundsyn-show --help | --version; N is 1 to 100, `-` is standard input, and `-o FILE` before all words writes FILE

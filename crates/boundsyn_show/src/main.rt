@@ -5,6 +5,7 @@
 mod answers;
 mod faults;
 mod options;
+mod remarks;
 mod words;
 
 use answers::{lint_answer, machine_answer, text_answer};

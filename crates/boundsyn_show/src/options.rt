@@ -4,7 +4,7 @@ use std::alloc::{AllocError, AllocFailed, Global};
 
 /// The options behind which nothing stands.
 const FLAGS: &str =
-    "help version json table dot hoa circuit verilog html smv ltl tlsf apart dual lint core word";
+    "help version json table dot hoa circuit verilog html smv ltl tlsf apart dual lint core word assert";
 
 /// Those with a value; so is `vcd` where no play is asked for.
 const WITH_VALUE: &str = "wave vcd against proofs text without rounds module reset spec";
@@ -14,7 +14,7 @@ const DOCUMENTS: &str =
     "summary json table dot hoa circuit vcd wave verilog html smv against proofs";
 
 /// The options that are no views, each with the views that it stands beside.
-const BESIDE: [(&str, &str); 8] = [
+const BESIDE: [(&str, &str); 9] = [
     ("text", DOCUMENTS),
     ("core", DOCUMENTS),
     ("without", DOCUMENTS),
@@ -22,7 +22,11 @@ const BESIDE: [(&str, &str); 8] = [
     ("rounds", "vcd wave against"),
     ("module", "verilog"),
     ("reset", "verilog"),
-    ("spec", "html smv verilog proofs ltl tlsf apart dual lint"),
+    ("assert", "verilog"),
+    (
+        "spec",
+        "summary json html smv verilog proofs ltl tlsf apart dual lint",
+    ),
 ];
 
 /// Why words aren't taken.

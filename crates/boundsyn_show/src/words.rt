@@ -1,8 +1,9 @@
 //! The words of the command line.
 
 use crate::options::{Given, WordsFault};
+use gate_modules::{Level, Reset};
 use machine_table::Choice;
-use machine_views::{PlayView, Reset};
+use machine_views::PlayView;
 use spec_texts::Form;
 
 /// What the words ask for.
@@ -39,8 +40,8 @@ pub enum Asked<'a> {
     /// What the machine does on a word, with so many rounds of its ring.
     Vcd(u32),
     Wave(u32),
-    /// A module of that name.
-    Verilog(&'a str, Reset),
+    /// A module of that name, with one that checks the text if that is asked for.
+    Verilog(&'a str, Reset, bool),
     Html,
     Smv,
     /// A play against another machine.
@@ -145,7 +146,7 @@ fn asked_by<'a>(given: &Given<'a>, view: &str) -> Result<Asked<'a>, WordsFault<'
         "smv" => Ok(Asked::Smv),
         "vcd" => Ok(Asked::Vcd(rounds_of(given)?)),
         "wave" => Ok(Asked::Wave(rounds_of(given)?)),
-        "verilog" => Ok(Asked::Verilog(module_of(given)?, reset_of(given)?)),
+        "verilog" => Ok(Asked::Verilog(module_of(given)?, reset_of(given)?, is_checked(given)?)),
         "against" => Ok(Asked::Against(play_of(given)?)),
         "proofs" => match (given.value("proofs"), given.has("spec")) {
             (Some(prefix), true) => Ok(Asked::Proofs(prefix)),
@@ -188,12 +189,23 @@ fn module_of<'a>(given: &Given<'a>) -> Result<&'a str, WordsFault<'a>> {
     Ok(name)
 }
 
+fn is_checked<'a>(given: &Given<'a>) -> Result<bool, WordsFault<'a>> {
+    match (given.has("assert"), given.has("spec")) {
+        (true, false) => bad("--assert", "wants --spec SPEC beside it"),
+        (is_asked, _) => Ok(is_asked),
+    }
+}
+
 fn reset_of<'a>(given: &Given<'a>) -> Result<Reset, WordsFault<'a>> {
     match given.value("reset") {
-        None => Ok(Reset::Synchronous),
-        Some("sync") => Ok(Reset::Synchronous),
-        Some("async") => Ok(Reset::Asynchronous),
+        None | Some("sync") => Ok(Reset::Synchronous(Level::High)),
+        Some("sync-low") => Ok(Reset::Synchronous(Level::Low)),
+        Some("async") => Ok(Reset::Asynchronous(Level::High)),
+        Some("async-low") => Ok(Reset::Asynchronous(Level::Low)),
         Some("none") => Ok(Reset::Initial),
-        Some(other) => bad(other, "isn't a reset: none, sync or async"),
+        Some(other) => bad(
+            other,
+            "isn't a reset: none, sync, async, sync-low or async-low",
+        ),
     }
 }

@@ -33,7 +33,7 @@ pub struct Edge {
 
 impl Cube {
     /// The cube of one letter.
-    fn of_letter(letter: u32) -> Cube {
+    pub(crate) fn of_letter(letter: u32) -> Cube {
         Cube {
             wanted: Letter(u64::from(letter)),
             cared: Letter(u64::from(MOST_LETTERS.saturating_sub(1))),
@@ -55,6 +55,11 @@ impl Cube {
         } else {
             None
         }
+    }
+
+    /// Whether it is the same cube.
+    pub(crate) fn is(self, other: Cube) -> bool {
+        self.wanted.0 == other.wanted.0 && self.cared.0 == other.cared.0
     }
 
     /// Whether a letter is one of its own.

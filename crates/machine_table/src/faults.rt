@@ -3,6 +3,12 @@ use std::alloc::{AllocError, AllocFailed};
 const BAD_WORD: &str =
     "a word is `stem`, letters, `ring` and at least one letter, a line each; a letter is the names of the machine's inputs that are true, with one blank between them, or `-`";
 
+const MANY_STATES: &str =
+    "the machine has more than 256 states; --verilog, --smv, --circuit, --wave and --vcd show it";
+
+const MANY_EDGES: &str =
+    "as a table the machine has more than 65536 lines; --verilog, --smv, --circuit, --wave and --vcd show it";
+
 /// Why something isn't shown.
 #[derive(Clone, Copy)]
 pub enum ShowFault {
@@ -42,6 +48,11 @@ impl ShowFault {
         }
     }
 
+    /// Whether a machine that has it can be shown by its gates and latches, or by what it does on a word.
+    pub fn is_of_table(self) -> bool {
+        matches!(self, ShowFault::TooManyStates | ShowFault::TooManyEdges)
+    }
+
     /// A sentence on it, without the line.
     pub fn sentence(self) -> &'static str {
         match self {
@@ -53,8 +64,8 @@ impl ShowFault {
             ShowFault::NoMachine => "the document has no machine",
             ShowFault::TooManySignals =>
                 "the machine has more than 16 inputs or more than 16 outputs",
-            ShowFault::TooManyStates => "the machine has more than 256 states",
-            ShowFault::TooManyEdges => "as a table the machine has more than 65536 lines",
+            ShowFault::TooManyStates => MANY_STATES,
+            ShowFault::TooManyEdges => MANY_EDGES,
             ShowFault::PlayTooLong => "the play doesn't come round within 65536 steps",
             ShowFault::TooLong => "the output would have more than 64 MB",
             ShowFault::SameNames => "two signals of the machine have the same name",

@@ -12,6 +12,7 @@ mod faults;
 mod lines;
 mod machines;
 mod outputs;
+mod runs;
 mod shown;
 mod shown_logs;
 mod signals;

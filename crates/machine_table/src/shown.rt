@@ -8,7 +8,7 @@ use crate::outputs::{Found, find, is_output};
 use crate::solved::{SolvedDocument, read_sixth};
 use aiger_text::{Circuit, CircuitFault, read_circuit};
 use document_text::{Document, DocumentFault, read_document};
-use letters_and_lassos::{Kind, Side};
+use letters_and_lassos::{Kind, Letter, Side};
 use solved_text::is_sixth;
 use std::alloc::Global;
 
@@ -77,6 +77,14 @@ impl Shown {
     pub fn machine(&self, alloc: Global) -> Result<Machine, ShowFault> {
         match self.circuit() {
             Some(circuit) => Machine::of_circuit(alloc, circuit, self.kind()),
+            None => Err(ShowFault::NoMachine),
+        }
+    }
+
+    /// The machine as far as a run on these letters shows it, whatever number of states it has.
+    pub fn machine_on(&self, alloc: Global, letters: &[Letter]) -> Result<Machine, ShowFault> {
+        match self.circuit() {
+            Some(circuit) => Machine::of_run(alloc, circuit, self.kind(), letters),
             None => Err(ShowFault::NoMachine),
         }
     }

@@ -1,6 +1,7 @@
 //! What the summary and the table say, as JSON.
 
 use crate::logs::{Ending, LogSummary, side_name};
+use crate::remarks::chosen;
 use crate::solved::put_letters;
 use aiger_text::Circuit;
 use document_text::{Document, Verdict};
@@ -9,6 +10,7 @@ use machine_table::{
     Cube, Edge, Machine, Part, ShowFault, Shown, ShownLog, SolvedDocument, Text, escaped,
     escaped_text, has_twice,
 };
+use outcome_news::{Owed, Remarks};
 use solved_text::{Letters, Verdict as SolvedVerdict};
 use std::alloc::{AllocError, Global};
 
@@ -22,8 +24,13 @@ pub(crate) const SIGNS: [(char, &str); 6] = [
     ('\t', " "),
 ];
 
-/// Puts an object with the verdict, the machine and the logs.
-pub(crate) fn put_json(alloc: Global, shown: &Shown, out: &mut Text) -> Result<(), ShowFault> {
+/// Puts an object with the verdict, the machine and the logs, and with what is so of the machine where that is known.
+pub(crate) fn put_json(
+    alloc: Global,
+    shown: &Shown,
+    remarks: Option<Remarks>,
+    out: &mut Text,
+) -> Result<(), ShowFault> {
     match shown {
         Shown::Circuit(_) => out.put("{\"verdict\": null, \"machine\": "),
         Shown::Document(document) => put_head(document, out),
@@ -35,7 +42,37 @@ pub(crate) fn put_json(alloc: Global, shown: &Shown, out: &mut Text) -> Result<(
     }
     out.put(", \"logs\": [");
     put_logs(alloc, shown, out)?;
-    out.put("]}\n");
+    out.put("]");
+    if let Some(remarks) = remarks {
+        put_remarks(alloc, shown, remarks, out)?;
+    }
+    out.put("}\n");
+    Ok(())
+}
+
+fn put_remarks(
+    alloc: Global,
+    shown: &Shown,
+    remarks: Remarks,
+    out: &mut Text,
+) -> Result<(), ShowFault> {
+    let owes_nothing = !matches!(remarks.owed, Owed::Guarantees);
+    out.fill(
+        ", \"remarks\": {\"owes_nothing\": {}",
+        &[Part::Word(truth(owes_nothing))],
+    );
+    if shown.circuit().is_some() {
+        let names = shown.machine_on(alloc, &[])?;
+        let outputs = escaped(alloc, &names.outputs.labels, &SIGNS)?;
+        let inputs = escaped(alloc, &names.inputs.labels, &SIGNS)?;
+        out.put(", \"always_true\": ");
+        put_texts(&chosen(alloc, remarks.always_true, &outputs)?, out);
+        out.put(", \"always_false\": ");
+        put_texts(&chosen(alloc, remarks.always_false, &outputs)?, out);
+        out.put(", \"never_looked_at\": ");
+        put_texts(&chosen(alloc, remarks.unread, &inputs)?, out);
+    }
+    out.put("}");
     Ok(())
 }
 

@@ -2,23 +2,22 @@
 //! an automaton, JSON, and what it does on a word or against another machine as lines of text or as a VCD file.
 //!
 //! `show` gives one of these views as text. It promises safety alone. The page is tools/page.html. Stands on machine_table for what is shown and its
-//! machine, on lasso_word for words, and on spec_texts for what is told of a text.
+//! machine, on gate_modules for modules of gates, on lasso_word for words, and on spec_texts for what is told of a text.
 #![tactic(auto)]
 
 mod dot;
 mod grid;
 mod hoa;
-mod identifiers;
 mod json;
-mod keywords;
 mod knowledge;
 mod logs;
 mod matching;
-mod page_text;
+mod page_back;
+mod page_front;
 mod pages;
 mod partners;
 mod plays;
-mod ports;
+mod remarks;
 mod runs;
 mod smv;
 mod smv_conditions;
@@ -32,5 +31,5 @@ mod views;
 mod wave;
 
 pub use plays::PlayView;
-pub use verilog::{ModuleView, Reset};
-pub use views::{View, WordView, show};
+pub use verilog::{ChecksView, ModuleView};
+pub use views::{TextView, View, WordView, show};

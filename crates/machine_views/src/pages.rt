@@ -2,10 +2,12 @@
 
 use crate::json::{SIGNS, put_text, put_texts};
 use crate::knowledge::{put_known, put_size};
-use crate::page_text::{back, front};
+use crate::page_back::back;
+use crate::page_front::front;
+use crate::remarks::sentences_on;
+use crate::views::TextView;
 use letters_and_lassos::Side;
 use machine_table::{Edge, Machine, Part, ShowFault, Shown, Text, escaped, put_digits, put_levels};
-use spec_texts::Told;
 use std::alloc::{AllocError, Global};
 
 /// The most bytes of a page.
@@ -16,7 +18,7 @@ const LONGEST: usize = 100_000;
 pub(crate) fn put_page(
     alloc: Global,
     shown: &Shown,
-    told: Option<&Told>,
+    text: Option<TextView<'_>>,
     out: &mut Text,
 ) -> Result<(), ShowFault> {
     let machine = shown.machine(alloc)?;
@@ -25,7 +27,7 @@ pub(crate) fn put_page(
     }
     put_machine(alloc, &machine, shown.side(), out)?;
     put_knowledge(shown, out);
-    put_told(alloc, told, out)?;
+    put_told(alloc, shown, text, out)?;
     for part in back() {
         out.put(part);
     }
@@ -88,17 +90,25 @@ fn put_knowledge(shown: &Shown, out: &mut Text) {
     out.put("]");
 }
 
-/// The title of the text, and its formulas.
-fn put_told(alloc: Global, told: Option<&Told>, out: &mut Text) -> Result<(), AllocError> {
+/// The title of the text, its formulas, and what is so of the machine by it.
+fn put_told(
+    alloc: Global,
+    shown: &Shown,
+    text: Option<TextView<'_>>,
+    out: &mut Text,
+) -> Result<(), AllocError> {
     out.put(",\n \"title\": ");
-    match told {
-        Some(told) => put_text(alloc, &told.title, out)?,
-        None => out.put("\"\""),
-    }
+    let Some(text) = text else {
+        out.put("\"\",\n \"formulas\": []}\n");
+        return Ok(());
+    };
+    put_text(alloc, &text.told.title, out)?;
     out.put(",\n \"formulas\": ");
-    match told {
-        Some(told) => put_texts(&escaped(alloc, &told.lines, &SIGNS)?, out),
-        None => out.put("[]"),
+    put_texts(&escaped(alloc, &text.told.lines, &SIGNS)?, out);
+    let remarks = sentences_on(alloc, shown, text.remarks)?;
+    if !remarks.is_empty() {
+        out.put(",\n \"remarks\": ");
+        put_texts(&escaped(alloc, &remarks, &SIGNS)?, out);
     }
     out.put("}\n");
     Ok(())

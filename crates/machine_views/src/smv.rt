@@ -1,12 +1,14 @@
 //! A machine as a module of SMV, whose inputs are free, with a formula that it should satisfy.
 
 use crate::smv_conditions::{put_output, put_steps};
+use gate_modules::put_smv_gates;
 use letters_and_lassos::Side;
 use machine_table::{Machine, Part, ShowFault, Shown, Text, has_twice, labels_of};
 use spec_texts::{SmvNames, TextFault, put_smv_formula};
 use std::alloc::Global;
 
-/// Puts the machine as a module `main`: its inputs are free variables, its state is a number, its outputs are defined. With a text the formula of that
+/// Puts the machine as a module `main`: its inputs are free variables, its state is a number, or where there are many its latches are variables, and its
+/// outputs are defined. With a text the formula of that
 /// is its property, or for a counter-machine the opposite. Names that SMV has no place for are replaced, of which comments tell; refused are two
 /// signals with the same name.
 pub(crate) fn put_smv(
@@ -15,7 +17,7 @@ pub(crate) fn put_smv(
     text: Option<&[u8]>,
     out: &mut Text,
 ) -> Result<(), TextFault> {
-    let machine = shown.machine(alloc)?;
+    let (machine, is_by_states) = machine_or_names(alloc, shown)?;
     if has_twice(&machine.inputs.labels, &machine.outputs.labels) {
         return Err(TextFault::NotShown(ShowFault::SameNames));
     }
@@ -24,7 +26,10 @@ pub(crate) fn put_smv(
     let outputs = labels_of(alloc, &names.outputs)?;
     put_replaced(&machine.inputs.labels, &inputs, out);
     put_replaced(&machine.outputs.labels, &outputs, out);
-    put_module(&machine, &inputs, &outputs, out);
+    match shown.circuit() {
+        Some(circuit) if !is_by_states => put_smv_gates(alloc, circuit, &inputs, &outputs, out)?,
+        _ => put_module(&machine, &inputs, &outputs, out),
+    }
     if let Some(text) = text {
         out.put(match shown.side() {
             Some(Side::Environment) => "LTLSPEC ! ",
@@ -42,6 +47,15 @@ pub(crate) fn put_smv(
         out.put(";\n");
     }
     Ok(())
+}
+
+/// The machine, and whether it has all its states; where these are too many it has the names of the signals alone.
+fn machine_or_names(alloc: Global, shown: &Shown) -> Result<(Machine, bool), ShowFault> {
+    match shown.machine(alloc) {
+        Ok(machine) => Ok((machine, true)),
+        Err(fault) if fault.is_of_table() => Ok((shown.machine_on(alloc, &[])?, false)),
+        Err(fault) => Err(fault),
+    }
 }
 
 /// A comment for each replaced name.

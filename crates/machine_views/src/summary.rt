@@ -1,20 +1,32 @@
 //! What a document says, for a person.
 
 use crate::logs::{Ending, LogSummary};
+use crate::remarks::sentences_on;
 use crate::solved;
 use aiger_text::Circuit;
 use document_text::{Document, Verdict};
 use letters_and_lassos::{Kind, Side};
 use machine_table::{Machine, Part, ShowFault, Shown, ShownLog, SolvedDocument, Text, put_words};
+use outcome_news::Remarks;
 use std::alloc::{AllocError, Global};
 
-pub(crate) fn put_summary(alloc: Global, shown: &Shown, out: &mut Text) -> Result<(), AllocError> {
+pub(crate) fn put_summary(
+    alloc: Global,
+    shown: &Shown,
+    remarks: Option<Remarks>,
+    out: &mut Text,
+) -> Result<(), AllocError> {
     match shown {
         Shown::Document(document) => put_document(alloc, document, shown.kind(), out)?,
         Shown::Solved(document) => put_solved(alloc, document, shown.kind(), out)?,
         Shown::Circuit(circuit) => {
             out.put("verdict: none, since it is a circuit alone\n");
             put_machine(alloc, circuit, None, out)?;
+        }
+    }
+    if let Some(remarks) = remarks {
+        for sentence in &sentences_on(alloc, shown, remarks)? {
+            out.fill("remark: {}\n", &[Part::Word(sentence)]);
         }
     }
     for place in 0..shown.log_count() {
@@ -145,13 +157,35 @@ fn put_machine(
             out.put("states: not counted, since ");
             out.put(fault.sentence());
             out.put("\n");
+            put_circuit(alloc, circuit, out)?;
         }
+    }
+    Ok(())
+}
+
+/// The latches and gates of a circuit whose states aren't counted, and the names of its signals where these are few.
+fn put_circuit(alloc: Global, circuit: &Circuit, out: &mut Text) -> Result<(), AllocError> {
+    out.fill(
+        "latches: {}\ngates: {}\n",
+        &[
+            Part::Number(circuit.latches.len() as u64),
+            Part::Number(circuit.gates.len() as u64),
+        ],
+    );
+    match Machine::of_run(alloc, circuit, None, &[]) {
+        Ok(machine) => put_names(&machine, out),
+        Err(ShowFault::NoMemory) => return Err(AllocError),
+        Err(_) => {}
     }
     Ok(())
 }
 
 fn put_signals(machine: &Machine, out: &mut Text) {
     out.fill("states: {}\n", &[Part::Number(machine.rows.len() as u64)]);
+    put_names(machine, out);
+}
+
+fn put_names(machine: &Machine, out: &mut Text) {
     out.put("inputs of the machine: ");
     put_words(&machine.inputs.labels, " ", "-", out);
     out.put("\noutputs of the machine: ");

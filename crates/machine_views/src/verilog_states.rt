@@ -1,7 +1,7 @@
 //! What a machine does in one state, as a branch of a `case`.
 
-use crate::ports::Ports;
 use crate::verilog::Names;
+use gate_modules::Ports;
 use letters_and_lassos::Letter;
 use machine_table::{Answer, Edge, Part, Row, Text, put_cube};
 use std::alloc::{AllocError, Global};

@@ -11,19 +11,20 @@ use crate::vcd::put_vcd;
 use crate::verilog::{ModuleView, put_verilog};
 use crate::wave::put_wave;
 use lasso_word::{WordFault, read_word};
-use letters_and_lassos::Lasso;
-use machine_table::{ShowFault, Shown, Text};
+use letters_and_lassos::{Lasso, Letter};
+use machine_table::{Machine, ShowFault, Shown, Text};
 use names_and_numbers::Name;
+use outcome_news::Remarks;
 use spec_texts::{TextFault, Told};
-use std::alloc::Global;
+use std::alloc::{AllocError, Global};
 
 /// What is shown of a document or of a circuit.
 #[derive(Clone, Copy)]
 pub enum View<'a> {
-    /// The document's verdict and logs, and the signals of the machine, for a person.
-    Summary,
+    /// The document's verdict and logs, and the signals of the machine, for a person, with what is so of the machine by a text.
+    Summary(Option<Remarks>),
     /// The same with the machine, as JSON.
-    Json,
+    Json(Option<Remarks>),
     /// The machine as a table.
     Table,
     /// The machine as a graph for Graphviz.
@@ -33,7 +34,7 @@ pub enum View<'a> {
     /// The machine as a module of Verilog-2005.
     Verilog(ModuleView<'a>),
     /// A page, with what is told of a text.
-    Page(Option<&'a Told>),
+    Page(Option<TextView<'a>>),
     /// A module of SMV, with the formula of a text.
     Smv(Option<&'a [u8]>),
     /// What the machine does on a word, as a VCD file.
@@ -42,6 +43,13 @@ pub enum View<'a> {
     Wave(WordView<'a>),
     /// A play against another machine.
     Play(&'a Shown, PlayView),
+}
+
+/// What is told of a text, and what is so of the machine by it.
+#[derive(Clone, Copy)]
+pub struct TextView<'a> {
+    pub told: &'a Told,
+    pub remarks: Remarks,
 }
 
 /// A word of input letters, as its text has it, and how often its ring is run through.
@@ -55,13 +63,13 @@ pub struct WordView<'a> {
 pub fn show(alloc: Global, shown: &Shown, view: View<'_>) -> Result<Vec<u8>, TextFault> {
     let mut out = Text::new(alloc);
     match view {
-        View::Summary => put_summary(alloc, shown, &mut out)?,
-        View::Json => put_json(alloc, shown, &mut out)?,
+        View::Summary(remarks) => put_summary(alloc, shown, remarks, &mut out)?,
+        View::Json(remarks) => put_json(alloc, shown, remarks, &mut out)?,
         View::Table => put_table(alloc, &shown.machine(alloc)?, &mut out)?,
         View::Dot => put_dot(alloc, &shown.machine(alloc)?, &mut out)?,
         View::Hoa => put_hoa(alloc, &shown.machine(alloc)?, &mut out)?,
         View::Verilog(module) => put_verilog(alloc, shown, module, &mut out)?,
-        View::Page(told) => put_page(alloc, shown, told, &mut out)?,
+        View::Page(text) => put_page(alloc, shown, text, &mut out)?,
         View::Smv(text) => put_smv(alloc, shown, text, &mut out)?,
         View::Vcd(word) => put_run(alloc, shown, word, true, &mut out)?,
         View::Wave(word) => put_run(alloc, shown, word, false, &mut out)?,
@@ -77,7 +85,7 @@ fn put_run(
     is_vcd: bool,
     out: &mut Text,
 ) -> Result<(), ShowFault> {
-    let machine = shown.machine(alloc)?;
+    let machine = machine_on(alloc, shown, word)?;
     let lasso = lasso_of(alloc, word.text, &machine.inputs.names)?;
     let steps = steps_on(alloc, &machine, &lasso, word.rounds)?;
     if is_vcd {
@@ -86,6 +94,28 @@ fn put_run(
         put_wave(&machine, &steps, out);
     }
     Ok(())
+}
+
+/// The machine, or where it has too many states as far as the word shows it.
+fn machine_on(alloc: Global, shown: &Shown, word: WordView<'_>) -> Result<Machine, ShowFault> {
+    match shown.machine(alloc) {
+        Err(fault) if fault.is_of_table() => {
+            let names = shown.machine_on(alloc, &[])?;
+            let lasso = lasso_of(alloc, word.text, &names.inputs.names)?;
+            shown.machine_on(alloc, &letters_of(alloc, &lasso, word.rounds)?)
+        }
+        found => found,
+    }
+}
+
+/// The letters of the stem of a word and of so many rounds of its ring.
+fn letters_of(alloc: Global, word: &Lasso, rounds: u32) -> Result<Vec<Letter>, AllocError> {
+    let mut letters = Vec::new(alloc);
+    letters.extend_from_slice(word.stem())?;
+    for _ in 0..rounds {
+        letters.extend_from_slice(word.ring())?;
+    }
+    Ok(letters)
 }
 
 /// A machine has at most 16 inputs, so a word has few names.

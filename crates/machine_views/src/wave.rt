@@ -61,12 +61,17 @@ fn cell_width(steps: &[Step]) -> usize {
     }
 }
 
-/// The digits of a state's number; there are at most 256 states.
+/// The digits of a state's number, at most eight.
 fn digits(state: usize) -> usize {
     match state {
         0..=9 => 1,
         10..=99 => 2,
-        _ => 3,
+        100..=999 => 3,
+        1_000..=9_999 => 4,
+        10_000..=99_999 => 5,
+        100_000..=999_999 => 6,
+        1_000_000..=9_999_999 => 7,
+        _ => 8,
     }
 }
 

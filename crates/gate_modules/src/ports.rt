@@ -9,30 +9,30 @@ const SIGNS: [(char, &str); 1] = [('`', "%60")];
 
 /// What a port is called, and the number of its bits where it is a bus.
 #[derive(Clone, Copy)]
-pub(crate) struct Port<'a> {
-    pub(crate) name: &'a str,
+pub struct Port<'a> {
+    pub name: &'a str,
     width: Option<usize>,
 }
 
 /// The names of the signals of one sort as printable text.
 #[derive(Drop)]
-pub(crate) struct Labels {
-    inputs: Vec<String>,
-    outputs: Vec<String>,
+pub struct Labels {
+    pub inputs: Vec<String>,
+    pub outputs: Vec<String>,
 }
 
 /// The ports of the signals, and the signals as expressions.
 #[derive(Drop)]
-pub(crate) struct Ports<'a> {
-    pub(crate) inputs: Vec<Port<'a>>,
-    pub(crate) outputs: Vec<Port<'a>>,
-    pub(crate) read: Vec<String>,
-    pub(crate) written: Vec<String>,
+pub struct Ports<'a> {
+    pub inputs: Vec<Port<'a>>,
+    pub outputs: Vec<Port<'a>>,
+    pub read: Vec<String>,
+    pub written: Vec<String>,
 }
 
 impl Labels {
     /// The labels of a machine's signals; two that are the same are refused.
-    pub(crate) fn of_machine(alloc: Global, machine: &Machine) -> Result<Labels, ShowFault> {
+    pub fn of_machine(alloc: Global, machine: &Machine) -> Result<Labels, ShowFault> {
         let inputs = escaped(alloc, &machine.inputs.labels, &SIGNS)?;
         let outputs = escaped(alloc, &machine.outputs.labels, &SIGNS)?;
         if has_twice(&inputs, &outputs) {
@@ -41,7 +41,7 @@ impl Labels {
         Ok(Labels { inputs, outputs })
     }
 
-    pub(crate) fn ports(&self, alloc: Global) -> Result<Ports<'_>, AllocError> {
+    pub fn ports(&self, alloc: Global) -> Result<Ports<'_>, AllocError> {
         Ok(Ports {
             inputs: ports_of(alloc, &self.inputs, &self.outputs)?,
             outputs: ports_of(alloc, &self.outputs, &self.inputs)?,
@@ -152,12 +152,7 @@ fn expression_of(
 
 impl Port<'_> {
     /// Puts its declaration behind the word for its sort.
-    pub(crate) fn put_declared(
-        self,
-        alloc: Global,
-        sort: &str,
-        out: &mut Text,
-    ) -> Result<(), AllocError> {
+    pub fn put_declared(self, alloc: Global, sort: &str, out: &mut Text) -> Result<(), AllocError> {
         let name = identifier(alloc, self.name)?;
         match self.width {
             Some(width) => out.fill(
@@ -176,7 +171,7 @@ impl Port<'_> {
 
 impl<'a> Ports<'a> {
     /// The names of all ports.
-    pub(crate) fn names(&self, alloc: Global) -> Result<Vec<&'a str>, AllocError> {
+    pub fn names(&self, alloc: Global) -> Result<Vec<&'a str>, AllocError> {
         let mut names = Vec::new(alloc);
         for port in self.inputs.iter().chain(self.outputs.iter()) {
             names.push(port.name)?;

@@ -5,7 +5,7 @@ use std::alloc::{AllocError, Global};
 
 /// A name of graphic characters as an identifier: one that the language forbids is escaped by a backslash before it and a
 /// blank behind it.
-pub(crate) fn identifier(alloc: Global, name: &str) -> Result<String, AllocError> {
+pub fn identifier(alloc: Global, name: &str) -> Result<String, AllocError> {
     if is_plain(name) {
         return String::from_str(alloc, name);
     }
@@ -25,7 +25,7 @@ fn is_word_byte(byte: u8) -> bool {
 }
 
 /// A name of our own, with as many `_` behind it as it takes to be none of those that are taken.
-pub(crate) fn free_name(alloc: Global, wanted: &str, taken: &[&str]) -> Result<String, AllocError> {
+pub fn free_name(alloc: Global, wanted: &str, taken: &[&str]) -> Result<String, AllocError> {
     let mut name = String::from_str(alloc, wanted)?;
     for _ in taken {
         if !taken.iter().any(|other| *other == name.as_str()) {
@@ -37,11 +37,7 @@ pub(crate) fn free_name(alloc: Global, wanted: &str, taken: &[&str]) -> Result<S
 }
 
 /// The same for the front of names of our own.
-pub(crate) fn free_front(
-    alloc: Global,
-    wanted: &str,
-    taken: &[&str],
-) -> Result<String, AllocError> {
+pub fn free_front(alloc: Global, wanted: &str, taken: &[&str]) -> Result<String, AllocError> {
     let mut front = String::from_str(alloc, wanted)?;
     for _ in taken {
         if !taken.iter().any(|other| other.starts_with(front.as_str())) {
