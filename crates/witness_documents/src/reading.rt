@@ -1,6 +1,9 @@
 //! A document's bytes, line by line.
 ghost use Rattle.std.specs.Prelude.{◌≡◌, ◌+◌, ◌<◌, ◌^◌, IfOk, IfSome, List, MatchOption, length};
+ghost use Rattle.std.specs.Option.{option_copied};
 ghost use Rattle.aiger_text.specs.CircuitFile.{File};
+ghost use Rattle.document_text.specs.Header.{behind as behind_front};
+ghost use Rattle.witness_documents.specs.Lines.{version_text};
 ghost use Rattle.witness_documents.specs.Places.{AreNumbered};
 ghost use Rattle.witness_documents.specs.Reading.{IsWitnessed, Reads, ReadsBody, ReadsRest, StandsBehind, lines_with as with_file, no_rest, unnamed_body as body_without_name, without_witness as stopped_before, with_witness as ended_by};
 ghost use Rattle.witness_documents.specs.Shown.{shown_body, shown_rest};
@@ -126,7 +129,9 @@ pub fn read_witnessed(alloc: Global, bytes: &[u8]) -> Result<Option<WitnessedLin
 }
 
 /// The bytes behind the line of the version, where that comes first.
-fn behind_version(comment: &[u8]) -> Option<&[u8]> {
+fn behind_version(comment: &[u8]) -> Option<&[u8]>
+    ensures { option_copied result ≡ behind_front version_text comment.now }
+{
     behind(comment, b"boundsyn 7\n")
 }
 
