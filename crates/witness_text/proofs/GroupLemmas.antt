@@ -1,5 +1,5 @@
 -- Lines of one form, one after the other.
-use Rattle.std.proofs.Common.{◌≡◌, ℕ, zero, suc, ◌+◌, ◌<◌, ◌≤◌, Option, Some, None, List, [], ◌∷◌, ◌++◌, length, refl, sym, ap, subst, ◌∙◌, arith, append_assoc}
+use Rattle.std.proofs.Common.{◌≡◌, ℕ, zero, suc, ◌+◌, ◌-◌, ◌<◌, ◌≤◌, Option, Some, None, List, [], ◌∷◌, ◌++◌, length, refl, sym, ap, subst, ◌∙◌, arith, append_assoc}
 use Rattle.std.specs.Prelude.{All, map, IfSome, option_and_then, unwrap_or}
 use Rattle.std.specs.Option.{option_map_or}
 use Rattle.std.proofs.lemmas.List.{append-nil, length-append}
@@ -158,12 +158,22 @@ module _ {X : Type 0} (reading : List ℕ → Option X) (line : X → List ℕ) 
 
   -- ---- one more value of a loop
 
-  module _ (count : ℕ) (bytes : Option (List ℕ)) (done : List X) (n : ℕ) (rest : List ℕ) (so_far : values_from reading done (suc n) rest ≡ group reading count bytes) where
-    abbrev on_next : Option (X × List ℕ) → Found
-    on_next o = option_map_or (λ read. values_from reading (done ++ read.0 ∷ []) n read.1) o (done, None)
+  module _ (count : ℕ) (whole : Found) (done : List X) (rest : List ℕ) (so_far : values_from reading done (count - length done) rest ≡ whole) where
+    pub values_end : count ≤ length done → (done, Some rest) ≡ whole
+    values_end most = let none : 0 ≡ count - length done = omega arith in ap (λ n. values_from reading done n rest) none ∙ so_far
 
-    pub value_more : (x : X) (behind : List ℕ) → front reading rest ≡ Some (x, behind) → values_from reading (done ++ x ∷ []) n behind ≡ group reading count bytes
-    value_more x behind is = sym (ap on_next is) ∙ so_far
+    module _ (less : length done < count) where
+      abbrev on_next : Option (X × List ℕ) → Found
+      on_next o = option_map_or (λ read. values_from reading (done ++ read.0 ∷ []) (count - (length done + 1)) read.1) o (done, None)
 
-    pub value_missing : front reading rest ≡ None → (done, None) ≡ group reading count bytes
-    value_missing is = sym (ap on_next is) ∙ so_far
+      here : on_next (front reading rest) ≡ whole
+      here = let more : suc (count - (length done + 1)) ≡ count - length done = omega arith in ap (λ n. values_from reading done n rest) more ∙ so_far
+
+      pub value_more : (x : X) (behind : List ℕ) → front reading rest ≡ Some (x, behind)
+          → values_from reading (done ++ x ∷ []) (count - length (done ++ x ∷ [])) behind ≡ whole
+      value_more x behind is =
+          let longer : length (done ++ x ∷ []) ≡ length done + 1 = length-append done (x ∷ []) in
+          ap (λ n. values_from reading (done ++ x ∷ []) (count - n) behind) longer ∙ sym (ap on_next is) ∙ here
+
+      pub value_missing : front reading rest ≡ None → (done, None) ≡ whole
+      value_missing is = sym (ap on_next is) ∙ here

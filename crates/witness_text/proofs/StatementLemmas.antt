@@ -131,10 +131,11 @@ module _ (counts : WitnessCounts) (are : AreCounts counts) (bytes behind : List 
       let e2 : latches.left ≡ text_of_lines (map gate_line w.gates) ++ (text_of_lines (always_line a.0 ∷ []) ++ (text_of_lines (map part_line w.parts) ++ rest)) =
       gates.text ∙ ap (λ (r : List ℕ). text_of_lines (map gate_line w.gates) ++ r) e3 in
       let e1 : behind ≡ text_of_lines (map latch_line w.latches) ++ (text_of_lines (map gate_line w.gates) ++ (text_of_lines (always_line a.0 ∷ []) ++ (text_of_lines (map part_line w.parts) ++ rest))) =
-      latches.text ∙ ap (λ (r : List ℕ). text_of_lines (map latch_line w.latches) ++ r) e2 in
-      (p.1, record {
-        witness = record { latches = (latches_read counts behind).0; gates = (gates_read counts behind).0; always = a.0; parts = (parts_read counts behind).0 };
-        s_is = λ i. record {
+      latches.text ∙ ap (λ (r : List ℕ). text_of_lines (map latch_line w.latches) ++ r) e2 in (
+        p.1,
+        record {
+          witness = record { latches = (latches_read counts behind).0; gates = (gates_read counts behind).0; always = a.0; parts = (parts_read counts behind).0 };
+          s_is = λ i. record {
             counts = Some (same i);
             latches = (latches_read counts behind).0;
             gates = (gates_read counts behind).0;
@@ -142,17 +143,18 @@ module _ (counts : WitnessCounts) (are : AreCounts counts) (bytes behind : List 
             parts = (parts_read counts behind).0;
             rest = is i;
           };
-        text = head ∙ (λ i. text_of_lines (counts_line (same i) ∷ []) ++ e1 i)
-            ∙ sym (five_texts (text_of_lines (head_line w ∷ [])) (text_of_lines (map latch_line w.latches)) (text_of_lines (map gate_line w.gates)) (text_of_lines (always_line a.0 ∷ []))
+          text = head ∙ (λ i. text_of_lines (counts_line (same i) ∷ []) ++ e1 i)
+              ∙ sym (five_texts (text_of_lines (head_line w ∷ [])) (text_of_lines (map latch_line w.latches)) (text_of_lines (map gate_line w.gates)) (text_of_lines (always_line a.0 ∷ []))
               (text_of_lines (map part_line w.parts)) rest);
-        fits = record {
-          counts = subst AreCounts same are;
-          latches = latches.all;
-          gates = gates.all;
-          always = subst (λ (o : Option ℕ). IfSome o IsLiteral) a.1 always.fits;
-          parts = parts.all;
-        };
-      })
+          fits = record {
+            counts = subst AreCounts same are;
+            latches = latches.all;
+            gates = gates.all;
+            always = subst (λ (o : Option ℕ). IfSome o IsLiteral) a.1 always.fits;
+            parts = parts.all;
+          };
+        },
+      )
 
   behind_is_read : IsRead bytes (statement_behind counts behind)
   behind_is_read =
