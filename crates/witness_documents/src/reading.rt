@@ -1,8 +1,10 @@
 //! A document's bytes, line by line.
-ghost use Rattle.std.specs.Prelude.{◌≡◌, ◌+◌, ◌<◌, ◌^◌, IfOk, IfSome, List, MatchOption, length};
+ghost use Rattle.std.specs.Prelude.{◌≡◌, ◌+◌, ◌<◌, ◌^◌, IfOk, IfSome, ℕ, List, MatchOption, length};
 ghost use Rattle.std.specs.Option.{option_copied};
 ghost use Rattle.aiger_text.specs.CircuitFile.{File};
 ghost use Rattle.document_text.specs.Header.{behind as behind_front};
+ghost use Rattle.solved_text.specs.Logs.{ReadsLogs};
+ghost use Rattle.solved_text.specs.Shown.{shown_logs};
 ghost use Rattle.witness_documents.specs.Lines.{version_text};
 ghost use Rattle.witness_documents.specs.Places.{AreLines, AreNumbered};
 ghost use Rattle.witness_documents.specs.Reading.{IsWitnessed, Reads, ReadsBody, ReadsRest, StandsBehind, lines_with as with_file, no_rest, unnamed_body as body_without_name, without_witness as stopped_before, with_witness as ended_by};
@@ -11,7 +13,7 @@ ghost use Rattle.witness_documents.specs.Shown.{shown_body, shown_rest};
 use crate::header::{Header, read_header};
 use aiger_text::{CircuitFile, read_circuit};
 use document_text::{all_named, behind, fault_line};
-use solved_text::{SizeLog, read_logs};
+use solved_text::{LogsRead, SizeLog, read_logs};
 use std::alloc::{AllocError, Global};
 use std::marker::Model;
 use witness_text::{Following, WitnessLines, read_witness};
@@ -90,7 +92,7 @@ impl RestRead {
 impl BodyRead {
     /// Behind the line `c` of this circuit.
     fn behind(self, file: CircuitFile) -> WitnessedLines
-        ensures { result ≡ with_file file (shown_body self.entry) }
+        ensures { result ≡ with_file file (shown_body self) }
     {
         WitnessedLines {
             file,
@@ -122,10 +124,11 @@ pub fn read_witnessed(alloc: Global, bytes: &[u8]) -> Result<Option<WitnessedLin
     let Some(at) = file.comment_at else {
         return Ok(None);
     };
-    match behind_version(&bytes[at..]) {
-        Some(text) => Ok(Some(read_behind(alloc, file, text)?)),
-        None => Ok(None),
-    }
+    let Some(text) = behind_version(&bytes[at..]) else {
+        return Ok(None);
+    };
+    let lines = read_behind(alloc, file, text)?;
+    Ok(Some(lines))
 }
 
 /// The bytes behind the line of the version, where that comes first.
@@ -138,7 +141,7 @@ fn behind_version(comment: &[u8]) -> Option<&[u8]>
 /// Reads the lines behind that of the version, where no fault of the circuit is.
 fn read_behind(alloc: Global, file: CircuitFile, text: &[u8]) -> Result<WitnessedLines, AllocError>
     requires { file.comment_line + length text.now + 27 < 2 ^ 64 }
-    ensures reads { (bytes : List ℕ) → StandsBehind bytes file.entry text.now → IfOk result (Reads bytes) }
+    ensures reads { (bytes : List ℕ) → StandsBehind bytes file text.now → IfOk result (Reads bytes) }
     ensures numbered { IfOk result AreNumbered }
 {
     let line = file.comment_line;
@@ -187,9 +190,19 @@ fn read_rest(alloc: Global, refuted: u32, n: u64, bytes: &[u8]) -> Result<RestRe
     ensures numbered { IfOk result (λ rest. IfSome rest.witness AreLines) }
 {
     let read = read_logs(alloc, refuted, n, bytes)?;
-    let Some(text) = read.rest else {
-        return Ok(RestRead::without_witness(read.logs, read.line));
+    read_behind_sizes(alloc, read)
+}
+
+/// Reads the witness behind these logs, where all of them were read.
+fn read_behind_sizes(alloc: Global, read: LogsRead<'_>) -> Result<RestRead, AllocError>
+    requires { IfSome read.rest (λ text. read.line + length text.now + 8 < 2 ^ 64) }
+    ensures reads { (refuted n : ℕ) (bytes : List ℕ) → ReadsLogs refuted 0 n bytes (shown_logs read.entry) → IfOk result (λ rest. ReadsRest n bytes refuted (shown_rest rest)) }
+    ensures numbered { IfOk result (λ rest. IfSome rest.witness AreLines) }
+{
+    let LogsRead { logs, line, rest } = read;
+    let Some(text) = rest else {
+        return Ok(RestRead::without_witness(logs, line));
     };
-    let lines = read_witness(alloc, read.line, text, Following::Nothing)?;
-    Ok(RestRead::with_witness(read.logs, lines))
+    let lines = read_witness(alloc, line, text, Following::Nothing)?;
+    Ok(RestRead::with_witness(logs, lines))
 }
