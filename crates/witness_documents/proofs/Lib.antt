@@ -1,0 +1,3 @@
+pub mod HeaderWhole
+pub mod Whole
+mod BodyLemmas
