@@ -47,12 +47,9 @@ pub ended_reads : (refuted n : ℕ) (bytes : List ℕ) (read : LogsRead) (text :
 ended_reads refuted n bytes read text lines rest some wit is reads =
     subst (λ (x : RestRead). ReadsRest n bytes refuted x) (sym is) (of_witness read text lines reads some wit)
 
--- where no witness is reached, nothing is said of its lines
+-- nothing is said of the lines of a witness that isn't reached
 pub no_lines : (o : Option WitnessLines) → o ≡ None → IfSome o AreLines
 no_lines o none = subst (λ (o : Option WitnessLines). IfSome o AreLines) (sym none) tt
-
-pub these_lines : (o : Option WitnessLines) (lines : WitnessLines) → o ≡ Some lines → AreLines lines → IfSome o AreLines
-these_lines o lines some are = subst (λ (o : Option WitnessLines). IfSome o AreLines) (sym some) are
 
 -- ---- behind the version
 

@@ -201,7 +201,7 @@ module _ (w : WitnessesAreDetermined) where
   module _ (file : File) (bytes text : List ℕ) (stands : StandsBehind bytes file text) (all_names : all_named file.circuit ≡ true) where
     module _ (rest : RestRead) (h : GoodHeader (verdict_line file) text (header_of (verdict_line file) text))
         (g : GoodRest (line_behind (verdict_line file) h.converted) h.rest h.refuted rest) where
-      found : Document
+      abbrev found : Document
       found = record { verdict = h.verdict; kind = h.kind; converted = h.converted; circuit = file.circuit; sizes = rest.sizes; proof = g.proof }
 
       formed : IsWellFormed found
@@ -266,8 +266,14 @@ module _ (w : WitnessesAreDetermined) where
   -- ---- what is stated is read
 
   -- what is read behind the header of a document's text
-  rest_good : (m : ℕ) (d : Document) (rest : RestRead) → IsWellFormed d → AreInOrder 0 m d.sizes → ReadsRest m (sizes_text d) (length d.sizes) rest
-      → (rest.bad ≡ None) × (rest.sizes ≡ d.sizes) × ((lines : WitnessLines) × (rest.witness ≡ Some lines) × (witness_of lines ≡ Some d.proof))
+  record IsRestOf (d : Document) (rest : RestRead) : Type 0 where
+    good : rest.bad ≡ None
+    sizes : rest.sizes ≡ d.sizes
+    lines : WitnessLines
+    witness_is : rest.witness ≡ Some lines
+    of_lines : witness_of lines ≡ Some d.proof
+
+  rest_good : (m : ℕ) (d : Document) (rest : RestRead) → IsWellFormed d → AreInOrder 0 m d.sizes → ReadsRest m (sizes_text d) (length d.sizes) rest → IsRestOf d rest
   rest_good m d rest f in_order (of_sizes s reads none) =
       absurd (some_none (Some (proof_text d.proof)) (proof_text d.proof) refl
       (ap (λ (x : LogsRead). x.rest) (logs_same (length d.sizes) 0 m (sizes_text d) (sizes_read m d) s (sizes_are_read m d f in_order) reads) ∙ none))
@@ -276,7 +282,7 @@ module _ (w : WitnessesAreDetermined) where
       let here : proof_text d.proof ≡ text = some_same (Some (proof_text d.proof)) (proof_text d.proof) text refl (ap (λ (x : LogsRead). x.rest) same ∙ some) in
       let states : witness_states.States Nothing text d.proof = subst (λ (x : List ℕ). witness_states.States Nothing x d.proof) here (w.written d.proof f.proof) in
       let good = w.all_good Nothing s.line text lines d.proof wit states in
-      (good.0, ap (λ (x : LogsRead). x.logs) (sym same), (lines, refl, good.1))
+      record { good = good.0; sizes = ap (λ (x : LogsRead). x.logs) (sym same); lines = lines; witness_is = refl; of_lines = good.1 }
 
   module _ (d : Document) (f : IsWellFormed d) (file : File) (is : file.circuit ≡ d.circuit) (in_order : AreInOrder 0 (line_behind (verdict_line file) d.converted) d.sizes) where
     abbrev n : ℕ
@@ -292,10 +298,10 @@ module _ (w : WitnessesAreDetermined) where
         let there : ReadsRest (line_behind n d.converted) (sizes_text d) (length d.sizes) rest =
         subst (λ (x : ℕ). ReadsRest (line_behind n d.converted) (sizes_text d) x rest) same
         (subst (λ (x : HeaderRead). ReadsRest x.line x.rest r rest) header_is reads) in
-        let good = rest_good (line_behind n d.converted) d rest f in_order there in (
-          good.0,
+        let read = rest_good (line_behind n d.converted) d rest f in_order there in (
+          read.good,
           ap (λ (x : HeaderRead). document_of (lines_with file (record { header = x.header; rest = rest }))) header_is
-              ∙ with_witness_is rest good.1.1.0 good.1.0 good.1.1.1.0 good.1.1.1.1,
+              ∙ with_witness_is rest read.lines read.sizes read.witness_is read.of_lines,
         )
       where
         with_witness_is : (rest : RestRead) (lines : WitnessLines) → rest.sizes ≡ d.sizes → rest.witness ≡ Some lines → witness_of lines ≡ Some d.proof

@@ -6,4 +6,5 @@ pub mod HeadLemmas
 pub mod LogLemmas
 pub mod LogsWhole
 pub mod Whole
+pub mod ReadLemmas
 pub mod WriteLemmas

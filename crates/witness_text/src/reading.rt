@@ -26,6 +26,19 @@ pub fn read_witness(
     ensures numbered { IfOk result IsNumbered }
     ensures well { IfOk result IsReadWell }
 {
+    let lines = read_lines(alloc, first, bytes, following)?;
+    Ok(lines)
+}
+
+fn read_lines(
+    alloc: Global,
+    first: u64,
+    bytes: &[u8],
+    following: Following,
+) -> Result<WitnessLines, AllocError>
+    requires { first + length bytes.now + 8 < 2 ^ 64 }
+    ensures { IfOk result (Reads following first bytes.now) }
+{
     let statement = read_statement(alloc, bytes)?;
     let line = first + statement.lines();
     let Some(text) = statement.rest else {

@@ -41,7 +41,8 @@ fn push_statement(text: &mut Vec<u8>, witness: &Witness) -> Result<(), AllocErro
     push_latches(text, &witness.latches)?;
     push_gates(text, &witness.gates)?;
     push_always(text, witness.always)?;
-    push_parts(text, &witness.parts)
+    push_parts(text, &witness.parts)?;
+    Ok(())
 }
 
 fn push_head(text: &mut Vec<u8>, witness: &Witness) -> Result<(), AllocError>
@@ -130,7 +131,8 @@ fn push_log(text: &mut Vec<u8>, place: usize, log: &ObligationLog) -> Result<(),
         proof_words(place),
         &[u64::from(log.vars), log.base, entries],
     )?;
-    write_entries(&log.entries, text)
+    write_entries(&log.entries, text)?;
+    Ok(())
 }
 
 /// Appends a line of words, with the space behind them, and numbers.
