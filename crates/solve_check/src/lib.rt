@@ -20,3 +20,4 @@ mod size_logs;
 pub use acceptance::{Acceptance, accepted_line};
 pub use asked::asked_text;
 pub use checking::{Checked, check_solved};
+pub use given::{form_for, is_taken_so, kind_for, names_of};

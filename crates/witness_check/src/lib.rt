@@ -9,5 +9,5 @@ mod faults;
 mod order;
 
 pub use bases::ObligationLog;
-pub use check::check_logs;
+pub use check::{check_first_logs, check_logs};
 pub use faults::{ObligationFault, WitnessFault};

@@ -1,0 +1,36 @@
+-- What is claimed of a circuit that plays a side for a text, and what the circuit owes (this project's own; the duality of Mealy and
+-- Moore machines).
+use Rattle.letters_and_lassos.specs.declared.kinds.Side.{Side}
+use Rattle.letters_and_lassos.specs.declared.kinds.Side.TheVariants.{System, Environment}
+use Rattle.aiger_text.specs.Circuit.{Circuit, IsCircuitOfKind}
+use Rattle.aiger_text.specs.CircuitType.{IsCircuit}
+use Rattle.circuit_names.specs.Names.{HasNames}
+use Rattle.satisfaction.specs.Satisfaction.{CircuitDefeats, CircuitSatisfies}
+use Rattle.satisfaction.specs.Wanted.{Wanted}
+use Rattle.solve_ground.specs.declared.texts.SolveText.{SolveText}
+use Rattle.truth_witness.specs.Witness.{Claim, Witness}
+use Rattle.ltl_formula.specs.Nodes.{IsNodeIn, IsNodeList}
+use Rattle.solve_check.specs.Checked.{AreNormal}
+use Rattle.solve_check.specs.Given.{form_for, kind_for, names_in}
+
+-- both forms of the text's whole stand in its list in normal form
+pub record HasForms (t : SolveText) : Type 0 where
+  pub list : IsNodeList t.formulas
+  pub negated : IsNodeIn t.formulas t.negated
+  pub normal : IsNodeIn t.formulas t.normal
+  pub are_normal : AreNormal t
+
+-- that what the side keeps from being true is true on no run lasso of the circuit, with a witness for it
+abbrev pub claim_for : SolveText → Side → Circuit → Witness → Claim
+claim_for t side c w = record { side = side; circuit = c; nodes = t.formulas; form = form_for t side; witness = w }
+
+-- the circuit may play the side: it is of the side's kind, and has the text's names
+pub record MayPlay (t : SolveText) (side : Side) (c : Circuit) : Type 0 where
+  pub circuit : IsCircuit c
+  pub kind : IsCircuitOfKind (kind_for t side) c
+  pub names : HasNames (names_in t) side c
+
+-- what a circuit owes that plays the side
+abbrev pub DoesWhatIsOwed : Side → Wanted → Circuit → Type 0
+DoesWhatIsOwed System x c = CircuitSatisfies x c
+DoesWhatIsOwed Environment x c = CircuitDefeats x c
