@@ -4,6 +4,7 @@ pub mod Variables
 pub mod Frames
 pub mod Falls
 pub mod Obligations
+pub mod Logs
 pub mod Proved
 pub mod Truths
 pub mod Descent

@@ -5,6 +5,8 @@
 #![tactic(auto)]
 
 pub mod laws;
+mod logs;
 mod witnesses;
 
+pub use logs::ObligationLog;
 pub use witnesses::{MAX_INDEX_BITS, MAX_RANK_BITS, Obligation, Operands, Part, Witness};

@@ -8,7 +8,8 @@ use Rattle.truth_witness.specs.Obligations.{clauses_of, variables_of}
 use Rattle.witness_check.specs.declared.bases.Bases.{Bases}
 use Rattle.witness_check.specs.declared.faults.ObligationFault.{ObligationFault}
 use Rattle.witness_check.specs.Order.{obligation_at, obligation_count}
-use Rattle.witness_check.specs.Logs.{AllHold, FirstHold, ObligationLog, HoldsAt, HoldsOver, log_at}
+use Rattle.truth_witness.specs.Logs.{ObligationLog}
+use Rattle.witness_check.specs.Logs.{AllHold, FirstHold, HoldsAt, HoldsOver, log_at}
 use Rattle.witness_check.specs.Faults.{IsFaultOver, IsFirstAt}
 use Rattle.witness_check.specs.Kept.{AreKept}
 

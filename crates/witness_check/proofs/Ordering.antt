@@ -9,7 +9,8 @@ use Rattle.truth_witness.specs.declared.witnesses.Obligation.TheVariants.{Base, 
 use Rattle.truth_witness.specs.Witness.{Witness, Claim}
 use Rattle.truth_witness.specs.Obligations.{IsObligationOf, clauses_of, variables_of}
 use Rattle.truth_witness.specs.Proved.{IsProved}
-use Rattle.witness_check.specs.Logs.{ObligationLog, AllHold, entries_for, log_at}
+use Rattle.truth_witness.specs.Logs.{ObligationLog}
+use Rattle.witness_check.specs.Logs.{AllHold, entries_for, log_at}
 use Rattle.witness_check.specs.Order.{obligation_at, obligation_count, of_part, place_of}
 
 div_three : (n r : ℕ) → r < 3 → (3 * n + r) / 3 ≡ n

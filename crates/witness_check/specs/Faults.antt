@@ -2,6 +2,7 @@
 use Rattle.std.specs.Prelude.{◌≡◌, ℕ, ◌<◌, ⊤, List, None, length}
 use Rattle.propositional_logic.specs.Literal.{Literal}
 use Rattle.log_checker.specs.Causes.{IsClosedFault}
+use Rattle.truth_witness.specs.Logs.{ObligationLog}
 use Rattle.truth_witness.specs.Witness.{Claim}
 use Rattle.truth_witness.specs.Obligations.{clauses_of, variables_of}
 use Rattle.witness_check.specs.declared.faults.ObligationFault.{ObligationFault}
@@ -9,7 +10,7 @@ use Rattle.witness_check.specs.declared.faults.ObligationFault.TheVariants.{Head
 use Rattle.witness_check.specs.declared.faults.WitnessFault.{WitnessFault}
 use Rattle.witness_check.specs.declared.faults.WitnessFault.TheVariants.{At, OutOfMemory}
 use Rattle.witness_check.specs.Order.{obligation_at}
-use Rattle.witness_check.specs.Logs.{ObligationLog, HoldsAt, log_at}
+use Rattle.witness_check.specs.Logs.{HoldsAt, log_at}
 
 -- the head says other numbers than the obligation has
 abbrev pub HasOtherHead : ℕ → List (List Literal) → ObligationLog → Type 0

@@ -4,15 +4,10 @@ use Rattle.propositional_logic.specs.Literal.{Literal}
 use Rattle.refutation_log.specs.declared.entries.Entry.{Entry}
 use Rattle.refutation_log.specs.Log.{IsClosed}
 use Rattle.truth_witness.specs.declared.witnesses.Obligation.{Obligation}
+use Rattle.truth_witness.specs.Logs.{ObligationLog}
 use Rattle.truth_witness.specs.Witness.{Claim}
 use Rattle.truth_witness.specs.Obligations.{clauses_of, variables_of}
 use Rattle.witness_check.specs.Order.{obligation_at, obligation_count, place_of}
-
--- a log with the numbers of variables and of base clauses that its head says
-pub record ObligationLog : Type 0 where
-  pub vars : ℕ
-  pub base : ℕ
-  pub entries : List Entry
 
 -- the log at a place
 abbrev pub log_at : List ObligationLog → ℕ → ObligationLog

@@ -14,28 +14,10 @@ ghost use Rattle.witness_check.specs.Kept.{AreKept, IsKept};
 use crate::faults::ObligationFault;
 use log_checker::{LogFault, check_log};
 use propositional_logic::{Clause, Cnf};
-use refutation_log::Entry;
 use std::alloc::{AllocError, Global};
-use std::marker::Model;
-use truth_witness::Obligation;
+use truth_witness::{Obligation, ObligationLog};
 use witness_clauses::Claim;
 use witness_clauses::laws::obligations_are_formulas;
-
-/// The log of an obligation, with the numbers of variables and of base clauses that its head says.
-#[derive(Drop)]
-pub struct ObligationLog {
-    pub vars: u32,
-    pub base: u64,
-    pub entries: Vec<Entry>,
-}
-
-impl Model for ObligationLog {
-    ghost use Rattle.witness_check.specs.Logs as logs;
-
-    ghost Value = { logs.ObligationLog };
-
-    ghost view = { λ l. record { vars = l.vars; base = l.base; entries = l.entries.items } };
-}
 
 /// Clauses that obligations share, and behind them those of the last obligation that was tested.
 #[derive(Drop)]

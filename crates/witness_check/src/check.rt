@@ -8,10 +8,11 @@ ghost use Rattle.witness_check.specs.Faults.{IsWitnessFault};
 ghost use Rattle.witness_check.specs.Logs.{AllHold, FirstHold, entries_for};
 ghost use Rattle.witness_check.specs.Order.{obligation_count};
 
-use crate::bases::{Bases, ObligationLog};
+use crate::bases::Bases;
 use crate::faults::WitnessFault;
 use crate::order::obligation_at;
 use std::alloc::Global;
+use truth_witness::ObligationLog;
 use truth_witness::laws::witnesses_show;
 use witness_clauses::Claim;
 

@@ -8,6 +8,5 @@ mod check;
 mod faults;
 mod order;
 
-pub use bases::ObligationLog;
 pub use check::{check_first_logs, check_logs};
 pub use faults::{ObligationFault, WitnessFault};

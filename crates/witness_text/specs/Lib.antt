@@ -1,0 +1,9 @@
+pub mod Lines
+pub mod Forms
+pub mod Statement
+pub mod Logs
+pub mod Reading
+pub mod Places
+pub mod States
+pub mod Laws
+pub mod Shown
