@@ -1,5 +1,4 @@
 pub mod Claims
-pub mod Read
-pub mod Seen
 pub mod Fails
+pub mod Parts
 pub mod Laws

@@ -8,4 +8,4 @@ pub mod laws;
 mod lines;
 
 pub use bounds::{Bounds, Counts};
-pub use lines::{WitnessLines, WitnessPlace, first_outside};
+pub use lines::{StatedLiterals, WitnessPlace, first_outside};

@@ -11,7 +11,7 @@ use truth_witness::{Operands, Part};
 /// The lines of a witness that were read, each of a kind behind those of the kind before it. Where one is missing, so is what stands
 /// behind it.
 #[derive(Clone, Copy)]
-pub struct WitnessLines<'a> {
+pub struct StatedLiterals<'a> {
     pub latches: &'a [u32],
     pub gates: &'a [Operands],
     pub always: Option<u32>,
@@ -28,7 +28,7 @@ pub enum WitnessPlace {
 }
 
 /// The first line with a literal out of its bound. Linear in the lines.
-pub fn first_outside(bounds: Bounds, lines: WitnessLines<'_>) -> Option<WitnessPlace>
+pub fn first_outside(bounds: Bounds, lines: StatedLiterals<'_>) -> Option<WitnessPlace>
     requires { bounds.first_gate + 2 * length lines.gates.now < 2 ^ 32 }
     ensures { result ≡ first_line_outside bounds (lines_seen lines.entry) }
 {
