@@ -143,7 +143,7 @@ module _ (x : Claim) where
   is_witness : HasFewBitsInParts w → latches_refused ≡ None → gates_refused ≡ None → always_refused b (Some w.always) ≡ None → parts_refused ≡ None → IsWitnessFor x
   is_witness few latches gates always parts = record {
     latches = all_pass (is_of_frame b) (λ l. l ≤ b.top) (within b) w.latches latches;
-    gates = λ k operands at. before k operands (each_passes (are_before b) 0 w.gates gates k operands at);
+    gates = λ k operands at. before k operands (let e : 0 + k ≡ k = omega arith in subst (λ m. are_before b m operands ≡ true) e (each_passes (are_before b) 0 w.gates gates k operands at));
     always = always_kept b w.always (is_of_frame b w.always) refl always;
     parts = λ k d h. part_for (get_or w.parts k d) (few.bits k d h)
         (each_passes (λ _ p. is_part_of_frame b p) 0 w.parts parts k (get_or w.parts k d) (slice_get-get_or w.parts k d h));
@@ -160,7 +160,7 @@ module _ (x : Claim) where
   pub none_outside : IsWitnessFor x → first_outside b (lines_of w) ≡ None
   none_outside is =
       let latches : latches_refused ≡ None = none_of_all (is_of_frame b) (λ l. l ≤ b.top) (is_within b) w.latches is.latches in
-      let gates : gates_refused ≡ None = none_refused (are_before b) 0 w.gates (λ k operands at. is_before k operands (is.gates k operands at)) in
+      let gates : gates_refused ≡ None = none_refused (are_before b) 0 w.gates (λ k operands at. let e : k ≡ 0 + k = omega arith in subst (λ m. are_before b m operands ≡ true) e (is_before k operands (is.gates k operands at))) in
       let always : always_refused b (Some w.always) ≡ None = cond-true (is_of_frame b w.always) None (Some Always) (is_within b w.always is.always) in
       let parts : parts_refused ≡ None = none_of_all (is_part_of_frame b) (IsPartFor x) is_of w.parts is.parts in
       λ i. option_or (option_map Latch (latches i)) (option_or (option_map Gate (gates i)) (option_or (always i) (option_map APart (parts i))))
