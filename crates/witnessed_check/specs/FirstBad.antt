@@ -7,6 +7,7 @@ use Rattle.std.specs.Option.{option_map_or}
 use Rattle.letters_and_lassos.specs.declared.kinds.Kind.TheVariants.{Moore}
 use Rattle.letters_and_lassos.specs.declared.kinds.Side.{Side}
 use Rattle.letters_and_lassos.specs.declared.kinds.Side.TheVariants.{System}
+use Rattle.aiger_text.specs.Circuit.{Circuit}
 use Rattle.annot_check.specs.Causes.{IsFirstByInput}
 use Rattle.circuit_names.specs.Lines.{earliest, stated_line}
 use Rattle.circuit_claims.specs.Fails.{WitnessFails}
@@ -14,9 +15,11 @@ use Rattle.solve_check.specs.FirstBad.{NumberFails, output_line}
 use Rattle.solve_check.specs.Given.{is_taken_so, kind_for, names_in}
 use Rattle.solve_check.specs.SizeLogs.{LogsFail, ground_for}
 use Rattle.solve_ground.specs.declared.texts.SolveText.{SolveText}
+use Rattle.solved_text.specs.Parts.{SizeLog}
 use Rattle.witness_documents.specs.declared.header.Header.{Header}
 use Rattle.witness_documents.specs.Places.{refuted_line, taken_line}
 use Rattle.witness_documents.specs.Reading.{Reads, WitnessedLines, verdict_line}
+use Rattle.witness_text.specs.Reading.{WitnessLines}
 use Rattle.witnessed_check.specs.Taken.{is_small}
 
 -- the side whose circuit a document has; where no verdict is reached, the system
@@ -53,15 +56,14 @@ taken_fails t lines =
 -- == 5: the logs of smaller sizes ==
 
 -- they are tested for a text that isn't too large for that
-abbrev pub SizesFail : SolveText → WitnessedLines → Option ℕ → Type 0
-SizesFail t lines first =
-    MatchBool (is_small t) (LogsFail (ground_for t (side_in lines.header)) lines.sizes first) (first ≡ None)
+abbrev pub SizesFail : SolveText → Side → List SizeLog → Option ℕ → Type 0
+SizesFail t side sizes first = MatchBool (is_small t) (LogsFail (ground_for t side) sizes first) (first ≡ None)
 
 -- == 6 and 7: the witness ==
 
 -- the lines of the witness that were read, and its proofs
-abbrev pub WitnessFailsIn : SolveText → WitnessedLines → Option ℕ → Type 0
-WitnessFailsIn t lines first = MatchOption lines.witness (first ≡ None) (λ w. WitnessFails t (side_in lines.header) lines.file.circuit w first)
+abbrev pub WitnessFailsIn : SolveText → Side → Circuit → Option WitnessLines → Option ℕ → Type 0
+WitnessFailsIn t side c witness first = MatchOption witness (first ≡ None) (λ w. WitnessFails t side c w first)
 
 -- == the lines ==
 
@@ -69,18 +71,19 @@ WitnessFailsIn t lines first = MatchOption lines.witness (first ≡ None) (λ w.
 abbrev pub front_line : SolveText → WitnessedLines → Option ℕ → Option ℕ
 front_line t lines number = earliest (circuit_fails t lines) (earliest number (earliest (refuted_fails t lines) (taken_fails t lines)))
 
--- that of the tests 5, 6 and 7, which aren't made where one of the others gives a line
-pub data BehindFails (t : SolveText) (lines : WitnessedLines) : Option ℕ → Option ℕ → Type 0 where
-  not_made : (n : ℕ) → BehindFails t lines (Some n) None
-  made : (sizes witness : Option ℕ) → SizesFail t lines sizes → WitnessFailsIn t lines witness
-      → BehindFails t lines None (earliest sizes witness)
+-- That of the tests 5, 6 and 7, of the circuit for this side and of what was read behind the header. They aren't made where one of the others
+-- gives a line.
+pub data BehindFails (t : SolveText) (side : Side) (c : Circuit) (sizes : List SizeLog) (witness : Option WitnessLines) : Option ℕ → Option ℕ → Type 0 where
+  not_made : (n : ℕ) → BehindFails t side c sizes witness (Some n) None
+  made : (sizes_line witness_line : Option ℕ) → SizesFail t side sizes sizes_line → WitnessFailsIn t side c witness witness_line
+      → BehindFails t side c sizes witness None (earliest sizes_line witness_line)
 
 -- the least line at which a test of the lines fails
 pub record LinesFail (t : SolveText) (lines : WitnessedLines) (first : Option ℕ) : Type 0 where
   pub number : Option ℕ
   pub number_fails : NumberFailsIn lines number
   pub behind : Option ℕ
-  pub behind_fails : BehindFails t lines (front_line t lines number) behind
+  pub behind_fails : BehindFails t (side_in lines.header) lines.file.circuit lines.sizes lines.witness (front_line t lines number) behind
   pub first_is : first ≡ earliest (front_line t lines number) (earliest lines.bad behind)
 
 -- == the whole ==

@@ -11,8 +11,8 @@ mod asked;
 mod behind;
 mod checking;
 mod front;
-mod given;
 pub mod laws;
+mod lines;
 
 pub use acceptance::{Acceptance, accepted_line};
 pub use asked::asked_text;
