@@ -1,6 +1,7 @@
 -- The numbers of a document's lines, and how what was read fits (this project's own).
-use Rattle.std.specs.Prelude.{ℕ, ◌+◌, ◌^◌, ◌<◌, ◌≤◌, Bool, IfSome, if◌then◌else◌}
+use Rattle.std.specs.Prelude.{ℕ, ◌+◌, ◌^◌, ◌<◌, Bool, IfSome, if◌then◌else◌}
 use Rattle.witness_text.specs.Places as witness
+use Rattle.witness_text.specs.Reading.{WitnessLines}
 use Rattle.witness_text.specs.States as witness_states
 use Rattle.witness_documents.specs.Reading.{WitnessedLines, verdict_line}
 
@@ -14,8 +15,12 @@ taken_line lines = kind_line lines + (if lines.header.converted then 1 else 0)
 abbrev pub refuted_line : WitnessedLines → ℕ
 refuted_line lines = taken_line lines + 1
 
--- all lines that were read have numbers of 64 bits, and the lines of the witness are such as lines can hold
+-- the lines of a witness have numbers of 64 bits, and are such as lines can hold
+pub record AreLines (lines : WitnessLines) : Type 0 where
+  pub numbered : witness.IsNumbered lines
+  pub well : witness_states.IsReadWell lines
+
+-- the same of a whole document, where the witness is reached
 pub record AreNumbered (lines : WitnessedLines) : Type 0 where
   pub header : verdict_line lines.file + 10 < 2 ^ 64
-  pub witness : IfSome lines.witness witness.IsNumbered
-  pub well : IfSome lines.witness witness_states.IsReadWell
+  pub witness : IfSome lines.witness AreLines

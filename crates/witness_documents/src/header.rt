@@ -1,9 +1,10 @@
 //! The lines of a document between the one of its version and its logs.
 ghost use Rattle.std.specs.Prelude.{◌≡◌, ◌+◌, ◌<◌, ◌≤◌, ◌^◌, ◌++◌, codes, option_map};
 ghost use Rattle.document_text.specs.Header.{behind as behind_front, front, kind_in, number_behind as number_after};
+ghost use Rattle.solved_text.specs.Header.{refuted_in};
 ghost use Rattle.solved_text.specs.Lines.{semantics_text};
 ghost use Rattle.witness_documents.specs.Lines.{side_words as words_of_side};
-ghost use Rattle.witness_documents.specs.Header.{bad_at as with_bad, header_of, may_stand, no_header, on_kind, on_semantics, on_verdict, refuted_at as with_refuted, sizes_end, verdict_in as verdict_of_line, verdict_of as verdict_of_side};
+ghost use Rattle.witness_documents.specs.Header.{bad_at as with_bad, header_of, may_stand, no_header, on_kind, on_refuted, on_semantics, on_verdict, refuted_at as with_refuted, sizes_end, verdict_in as verdict_of_line, verdict_of as verdict_of_side};
 ghost use Rattle.witness_documents.specs.Shown.{shown_header};
 
 use crate::documents::Verdict;
@@ -138,7 +139,15 @@ fn refuted_at(header: Header, n: u64, verdict: Verdict, bytes: &[u8]) -> HeaderR
     requires { n + 1 < 2 ^ 64 }
     ensures { shown_header result ≡ with_refuted header n verdict bytes.now }
 {
-    match refuted_line(verdict.sizes_end(), bytes) {
+    read_refuted(header, n, verdict.sizes_end(), bytes)
+}
+
+/// Line n says how many sizes are refuted, fewer than `end`.
+fn read_refuted(header: Header, n: u64, end: u32, bytes: &[u8]) -> HeaderRead<'_>
+    requires { n + 1 < 2 ^ 64 }
+    ensures { shown_header result ≡ on_refuted header n (front (refuted_in end) bytes.now) }
+{
+    match refuted_line(end, bytes) {
         Some((refuted, rest)) => HeaderRead {
             header: Header {
                 refuted: Some(refuted),

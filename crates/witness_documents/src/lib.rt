@@ -10,6 +10,8 @@ mod documents;
 mod header;
 pub mod laws;
 mod reading;
+#[cfg(test)]
+mod tests;
 mod write;
 
 pub use documents::{Document, Verdict};

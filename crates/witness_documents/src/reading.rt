@@ -1,7 +1,10 @@
 //! A document's bytes, line by line.
 ghost use Rattle.std.specs.Prelude.{◌≡◌, ◌+◌, ◌<◌, ◌^◌, IfOk, IfSome, List, MatchOption, length};
+ghost use Rattle.std.specs.Option.{option_copied};
 ghost use Rattle.aiger_text.specs.CircuitFile.{File};
-ghost use Rattle.witness_documents.specs.Places.{AreNumbered};
+ghost use Rattle.document_text.specs.Header.{behind as behind_front};
+ghost use Rattle.witness_documents.specs.Lines.{version_text};
+ghost use Rattle.witness_documents.specs.Places.{AreLines, AreNumbered};
 ghost use Rattle.witness_documents.specs.Reading.{IsWitnessed, Reads, ReadsBody, ReadsRest, StandsBehind, lines_with as with_file, no_rest, unnamed_body as body_without_name, without_witness as stopped_before, with_witness as ended_by};
 ghost use Rattle.witness_documents.specs.Shown.{shown_body, shown_rest};
 
@@ -126,7 +129,9 @@ pub fn read_witnessed(alloc: Global, bytes: &[u8]) -> Result<Option<WitnessedLin
 }
 
 /// The bytes behind the line of the version, where that comes first.
-fn behind_version(comment: &[u8]) -> Option<&[u8]> {
+fn behind_version(comment: &[u8]) -> Option<&[u8]>
+    ensures { option_copied result ≡ behind_front version_text comment.now }
+{
     behind(comment, b"boundsyn 7\n")
 }
 
@@ -159,7 +164,8 @@ fn unnamed_body(alloc: Global, line: u64, text: &[u8]) -> BodyRead
 /// Reads the lines from that of the verdict on, which is line n.
 fn read_body(alloc: Global, n: u64, bytes: &[u8]) -> Result<BodyRead, AllocError>
     requires { n + length bytes.now + 24 < 2 ^ 64 }
-    ensures { IfOk result (λ body. ReadsBody n bytes.now (shown_body body)) }
+    ensures reads { IfOk result (λ body. ReadsBody n bytes.now (shown_body body)) }
+    ensures numbered { IfOk result (λ body. IfSome body.rest.witness AreLines) }
 {
     let read = read_header(n, bytes);
     let header = read.header;
@@ -177,7 +183,8 @@ fn read_body(alloc: Global, n: u64, bytes: &[u8]) -> Result<BodyRead, AllocError
 /// Reads the logs of so many sizes from line n on, and the witness behind them.
 fn read_rest(alloc: Global, refuted: u32, n: u64, bytes: &[u8]) -> Result<RestRead, AllocError>
     requires { n + length bytes.now + 16 < 2 ^ 64 }
-    ensures { IfOk result (λ rest. ReadsRest n bytes.now refuted (shown_rest rest)) }
+    ensures reads { IfOk result (λ rest. ReadsRest n bytes.now refuted (shown_rest rest)) }
+    ensures numbered { IfOk result (λ rest. IfSome rest.witness AreLines) }
 {
     let read = read_logs(alloc, refuted, n, bytes)?;
     let Some(text) = read.rest else {

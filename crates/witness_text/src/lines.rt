@@ -1,6 +1,6 @@
 //! What the lines of a witness state, and their numbers.
-ghost use Rattle.std.specs.Prelude.{◌≡◌, ◌<◌, length};
-ghost use Rattle.witness_text.specs.Places.{IsNumbered, always_line as line_of_always, gate_line as line_of_gate, latch_line as line_of_latch, log_line as line_of_log, part_line as line_of_part};
+ghost use Rattle.std.specs.Prelude.{◌≡◌, ◌<◌, ◌^◌, length};
+ghost use Rattle.witness_text.specs.Places.{IsNumbered, always_line as line_of_always, gate_line as line_of_gate, latch_line as line_of_latch, lines_of_logs, log_line as line_of_log, part_line as line_of_part};
 ghost use Rattle.witness_text.specs.Reading.{witness_of};
 
 use std::marker::Model;
@@ -66,6 +66,18 @@ impl Model for WitnessProof {
     ghost view = { λ p. record { witness = p.witness; logs = p.logs.items } };
 }
 
+/// How many lines logs have: one for each head, and one for each entry.
+fn lines_of(logs: &[ObligationLog]) -> u64
+    requires { lines_of_logs logs.now < 2 ^ 64 }
+    ensures { result ≡ lines_of_logs logs.now }
+{
+    let mut lines = 0;
+    for log in logs {
+        lines += 1 + log.entries.len() as u64;
+    }
+    lines
+}
+
 impl WitnessLines {
     /// The number of the line of a latch that was read.
     pub fn latch_line(&self, latch: usize) -> u64
@@ -108,16 +120,12 @@ impl WitnessLines {
         requires within { log < length self.now.logs }
         ensures { result ≡ line_of_log self.now log }
     {
-        let mut line = self.always_line() + 1 + self.parts.len() as u64;
-        for before in &self.logs[..log] {
-            line += 1 + before.entries.len() as u64;
-        }
-        line
+        self.always_line() + 1 + self.parts.len() as u64 + lines_of(&self.logs[..log])
     }
 
     /// The witness and the logs that were read, where all lines up to the last part were.
     pub fn into_witness(self) -> Option<WitnessProof>
-        ensures { result ≡ witness_of self.entry }
+        ensures { result ≡ witness_of self }
     {
         let WitnessLines {
             counts,

@@ -1,9 +1,9 @@
 //! The lines of a witness up to its last part.
-ghost use Rattle.std.specs.Prelude.{◌≡◌, ◌<◌, ◌+◌, ◌^◌, IfOk};
+ghost use Rattle.std.specs.Prelude.{◌≡◌, ◌<◌, ◌^◌, [], IfOk, Some};
 ghost use Rattle.std.specs.Option.{option_copied};
 ghost use Rattle.witness_text.specs.Forms.{always_in, gate_in, latch_in, part_in};
 ghost use Rattle.witness_text.specs.Shown.{shown_statement};
-ghost use Rattle.witness_text.specs.Statement.{group, lines_of, no_statement, single, statement_behind as statement_of_counts, statement_in};
+ghost use Rattle.witness_text.specs.Statement.{group, lines_of, no_statement, single, statement_behind as statement_of_counts, statement_in, values_from};
 
 use crate::forms::{next_always, next_counts, next_gate, next_latch, next_part};
 use crate::lines::WitnessCounts;
@@ -92,11 +92,22 @@ fn read_latches(
 ) -> Result<(Vec<u32>, Option<&[u8]>), AllocError>
     ensures { IfOk result (λ read. (read.0.items, option_copied read.1) ≡ group latch_in count (option_copied bytes.entry)) }
 {
+    match bytes {
+        Some(bytes) => take_latches(alloc, count as usize, bytes),
+        None => Ok((Vec::new(alloc), None)),
+    }
+}
+
+fn take_latches(
+    alloc: Global,
+    count: usize,
+    bytes: &[u8],
+) -> Result<(Vec<u32>, Option<&[u8]>), AllocError>
+    ensures { IfOk result (λ read. (read.0.items, option_copied read.1) ≡ values_from latch_in [] count bytes.now) }
+{
     let mut latches = Vec::new(alloc);
-    let Some(mut rest) = bytes else {
-        return Ok((latches, None));
-    };
-    for _ in 0..count {
+    let mut rest = bytes;
+    while latches.len() < count {
         let Some((next, behind)) = next_latch(alloc, rest)? else {
             return Ok((latches, None));
         };
@@ -113,11 +124,22 @@ fn read_gates(
 ) -> Result<(Vec<Operands>, Option<&[u8]>), AllocError>
     ensures { IfOk result (λ read. (read.0.items, option_copied read.1) ≡ group gate_in count (option_copied bytes.entry)) }
 {
+    match bytes {
+        Some(bytes) => take_gates(alloc, count as usize, bytes),
+        None => Ok((Vec::new(alloc), None)),
+    }
+}
+
+fn take_gates(
+    alloc: Global,
+    count: usize,
+    bytes: &[u8],
+) -> Result<(Vec<Operands>, Option<&[u8]>), AllocError>
+    ensures { IfOk result (λ read. (read.0.items, option_copied read.1) ≡ values_from gate_in [] count bytes.now) }
+{
     let mut gates = Vec::new(alloc);
-    let Some(mut rest) = bytes else {
-        return Ok((gates, None));
-    };
-    for _ in 0..count {
+    let mut rest = bytes;
+    while gates.len() < count {
         let Some((gate, behind)) = next_gate(alloc, rest)? else {
             return Ok((gates, None));
         };
@@ -133,9 +155,15 @@ fn read_always(
 ) -> Result<(Option<u32>, Option<&[u8]>), AllocError>
     ensures { IfOk result (λ read. (read.0, option_copied read.1) ≡ single always_in (option_copied bytes.entry)) }
 {
-    let Some(bytes) = bytes else {
-        return Ok((None, None));
-    };
+    match bytes {
+        Some(bytes) => take_always(alloc, bytes),
+        None => Ok((None, None)),
+    }
+}
+
+fn take_always(alloc: Global, bytes: &[u8]) -> Result<(Option<u32>, Option<&[u8]>), AllocError>
+    ensures { IfOk result (λ read. (read.0, option_copied read.1) ≡ single always_in (Some bytes.now)) }
+{
     match next_always(alloc, bytes)? {
         Some((always, rest)) => Ok((Some(always), Some(rest))),
         None => Ok((None, None)),
@@ -149,11 +177,22 @@ fn read_parts(
 ) -> Result<(Vec<Part>, Option<&[u8]>), AllocError>
     ensures { IfOk result (λ read. (read.0.items, option_copied read.1) ≡ group part_in count (option_copied bytes.entry)) }
 {
+    match bytes {
+        Some(bytes) => take_parts(alloc, count as usize, bytes),
+        None => Ok((Vec::new(alloc), None)),
+    }
+}
+
+fn take_parts(
+    alloc: Global,
+    count: usize,
+    bytes: &[u8],
+) -> Result<(Vec<Part>, Option<&[u8]>), AllocError>
+    ensures { IfOk result (λ read. (read.0.items, option_copied read.1) ≡ values_from part_in [] count bytes.now) }
+{
     let mut parts = Vec::new(alloc);
-    let Some(mut rest) = bytes else {
-        return Ok((parts, None));
-    };
-    for _ in 0..count {
+    let mut rest = bytes;
+    while parts.len() < count {
         let Some((part, behind)) = next_part(alloc, rest)? else {
             return Ok((parts, None));
         };

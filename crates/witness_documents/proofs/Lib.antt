@@ -1,0 +1,2 @@
+pub mod HeaderWhole
+pub mod Whole

@@ -1,0 +1,9 @@
+pub mod NumberLemmas
+pub mod FormLemmas
+pub mod GroupLemmas
+pub mod StatementLemmas
+pub mod HeadLemmas
+pub mod LogLemmas
+pub mod LogsWhole
+pub mod Whole
+pub mod WriteLemmas
