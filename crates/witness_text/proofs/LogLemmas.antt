@@ -1,7 +1,7 @@
 -- The proofs read one after the other, in one way.
-use Rattle.std.proofs.Common.{◌≡◌, ℕ, suc, ◌+◌, ◌<◌, ◌≤◌, ◌^◌, Option, Some, None, List, [], ◌∷◌, ◌++◌, length, refl, sym, ap, subst, ◌∙◌, arith, append_assoc}
+use Rattle.std.proofs.Common.{◌≡◌, ℕ, suc, ◌+◌, ◌<◌, ◌≤◌, ◌^◌, Option, Some, None, List, [], ◌∷◌, ◌++◌, length, take, drop, get_or, refl, sym, ap, subst, ◌∙◌, arith, append_assoc}
 use Rattle.std.specs.Prelude.{All}
-use Rattle.std.proofs.lemmas.List.{append-nil, length-append}
+use Rattle.std.proofs.lemmas.List.{append-nil, length-append, take-append-drop, take_more}
 use Rattle.std.proofs.lemmas.List.Elements.{All-cons}
 use Rattle.std_lemmas.proofs.Options.{some_none, some_same}
 use Rattle.refutation_log.specs.declared.entries.Entry.{Entry}
@@ -186,3 +186,24 @@ logs_are_read count k n bytes read le (whole l m bs h t xs r more e f g all on) 
       line_is = omega (arith, line);
       lines = omega (arith, fits, lines);
     }
+
+-- ---- the lines of logs
+
+pub lines_of_logs-append : (xs ys : List ObligationLog) → lines_of_logs (xs ++ ys) ≡ lines_of_logs xs + lines_of_logs ys
+lines_of_logs-append [] ys = omega arith
+lines_of_logs-append (x ∷ xs) ys =
+    let more : lines_of_logs (xs ++ ys) ≡ lines_of_logs xs + lines_of_logs ys = lines_of_logs-append xs ys in
+    omega (arith, more)
+
+pub lines_of_first : (k : ℕ) (logs : List ObligationLog) → lines_of_logs (take k logs) ≤ lines_of_logs logs
+lines_of_first k logs =
+    let both : lines_of_logs logs ≡ lines_of_logs (take k logs) + lines_of_logs (drop k logs) =
+    ap lines_of_logs (sym (take-append-drop k logs)) ∙ lines_of_logs-append (take k logs) (drop k logs) in
+    omega (arith, both)
+
+pub lines_of_next : (logs : List ObligationLog) (i : ℕ) (d : ObligationLog) → i < length logs
+    → lines_of_logs (take (i + 1) logs) ≡ lines_of_logs (take i logs) + (1 + length (get_or logs i d).entries)
+lines_of_next logs i d less =
+    let one : lines_of_logs (get_or logs i d ∷ []) ≡ 1 + length (get_or logs i d).entries = omega arith in
+    ap lines_of_logs (take_more logs i d less) ∙ lines_of_logs-append (take i logs) (get_or logs i d ∷ [])
+    ∙ ap (λ n. lines_of_logs (take i logs) + n) one

@@ -3,7 +3,7 @@ ghost use Rattle.std.specs.Prelude.{◌≡◌, ◌<◌, ◌^◌, [], IfOk, Some}
 ghost use Rattle.std.specs.Option.{option_copied};
 ghost use Rattle.witness_text.specs.Forms.{always_in, gate_in, latch_in, part_in};
 ghost use Rattle.witness_text.specs.Shown.{shown_statement};
-ghost use Rattle.witness_text.specs.Statement.{group, lines_of, no_statement, single, statement_behind as statement_of_counts, statement_in, values_from};
+ghost use Rattle.witness_text.specs.Statement.{group, lines_of, no_statement, one_line as one_line_of, single, statement_behind as statement_of_counts, statement_in, values_from};
 
 use crate::forms::{next_always, next_counts, next_gate, next_latch, next_part};
 use crate::lines::WitnessCounts;
@@ -40,16 +40,21 @@ impl Statement<'_> {
         requires { lines_of (shown_statement self.now) < 2 ^ 64 }
         ensures { result ≡ lines_of (shown_statement self.now) }
     {
-        one_line(self.counts.is_some())
+        one_line(&self.counts)
             + self.latches.len() as u64
             + self.gates.len() as u64
-            + one_line(self.always.is_some())
+            + one_line(&self.always)
             + self.parts.len() as u64
     }
 }
 
-fn one_line(is_read: bool) -> u64 {
-    if is_read { 1 } else { 0 }
+fn one_line<T>(value: &Option<T>) -> u64
+    ensures { result ≡ one_line_of value.now }
+{
+    match value {
+        Some(_) => 1,
+        None => 0,
+    }
 }
 
 /// Reads the lines up to the last part.
