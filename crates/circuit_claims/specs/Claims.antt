@@ -1,5 +1,6 @@
 -- What is claimed of a circuit that plays a side for a text, and what the circuit owes (this project's own; the duality of Mealy and
 -- Moore machines).
+use Rattle.std.specs.Prelude.{ℕ, List}
 use Rattle.letters_and_lassos.specs.declared.kinds.Side.{Side}
 use Rattle.letters_and_lassos.specs.declared.kinds.Side.TheVariants.{System, Environment}
 use Rattle.aiger_text.specs.Circuit.{Circuit, IsCircuitOfKind}
@@ -14,7 +15,8 @@ use Rattle.solve_ground.specs.declared.texts.SolveText.{SolveText}
 use Rattle.truth_witness.specs.Proved.{IsWitnessFor}
 use Rattle.truth_witness.specs.Witness.{Claim, Witness}
 use Rattle.witness_check.specs.Logs.{AllHold}
-use Rattle.witness_text.specs.Reading.{WitnessProof}
+use Rattle.witness_text.specs.declared.lines.Following.{Following}
+use Rattle.witness_text.specs.Reading.{Reads, WitnessLines, WitnessProof}
 
 -- both forms of the text's whole stand in its list in normal form
 pub record HasForms (t : SolveText) : Type 0 where
@@ -42,3 +44,10 @@ pub record MayPlay (t : SolveText) (side : Side) (c : Circuit) : Type 0 where
 abbrev pub DoesWhatIsOwed : Side → Wanted → Circuit → Type 0
 DoesWhatIsOwed System x c = CircuitSatisfies x c
 DoesWhatIsOwed Environment x c = CircuitDefeats x c
+
+-- the lines of a witness were read of some bytes
+pub record WereRead (w : WitnessLines) : Type 0 where
+  pub following : Following
+  pub first : ℕ
+  pub bytes : List ℕ
+  pub reads : Reads following first bytes w

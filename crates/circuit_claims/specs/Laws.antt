@@ -6,9 +6,8 @@ use Rattle.aiger_text.specs.Circuit.{Circuit}
 use Rattle.solve_ground.specs.declared.texts.SolveText.{SolveText}
 use Rattle.solve_ground.specs.SolveText.{IsTextWithin}
 use Rattle.text_limits.specs.declared.Limits.{Limits}
-use Rattle.witness_text.specs.declared.lines.Following.{Following}
-use Rattle.witness_text.specs.Reading.{Reads, WitnessLines, WitnessProof, witness_of}
-use Rattle.circuit_claims.specs.Claims.{DoesWhatIsOwed, IsProvedFor, MayPlay}
+use Rattle.witness_text.specs.Reading.{WitnessLines, WitnessProof, witness_of}
+use Rattle.circuit_claims.specs.Claims.{DoesWhatIsOwed, IsProvedFor, MayPlay, WereRead}
 use Rattle.circuit_claims.specs.Fails.{WitnessFails}
 
 -- A circuit that may play a side does what it owes where a witness is proved for it, within whatever limits the text is taken.
@@ -19,9 +18,9 @@ ProvedWitnessesShow =
 
 -- Of lines of which none is bad, the witness fails at none exactly where it is proved for the circuit. One answer at most is right.
 pub record WitnessesAreTested : Type 0 where
-  pub proved : (t : SolveText) (side : Side) (c : Circuit) (f : Following) (first : ℕ) (bytes : List ℕ) (w : WitnessLines) (p : WitnessProof)
-      → Reads f first bytes w → w.bad ≡ None → witness_of w ≡ Some p → WitnessFails t side c w None → IsProvedFor t side c p
-  pub none : (t : SolveText) (side : Side) (c : Circuit) (f : Following) (first : ℕ) (bytes : List ℕ) (w : WitnessLines) (p : WitnessProof)
-      → Reads f first bytes w → w.bad ≡ None → witness_of w ≡ Some p → IsProvedFor t side c p → WitnessFails t side c w None
+  pub proved : (t : SolveText) (side : Side) (c : Circuit) (w : WitnessLines) (p : WitnessProof)
+      → WereRead w → w.bad ≡ None → witness_of w ≡ Some p → WitnessFails t side c w None → IsProvedFor t side c p
+  pub none : (t : SolveText) (side : Side) (c : Circuit) (w : WitnessLines) (p : WitnessProof)
+      → WereRead w → w.bad ≡ None → witness_of w ≡ Some p → IsProvedFor t side c p → WitnessFails t side c w None
   pub one : (t : SolveText) (side : Side) (c : Circuit) (w : WitnessLines) (a b : Option ℕ) → WitnessFails t side c w a
       → WitnessFails t side c w b → a ≡ b

@@ -5,11 +5,15 @@ use Rattle.letters_and_lassos.specs.declared.kinds.Side.{Side}
 use Rattle.log_checker.specs.Hinted.{AreWithin}
 use Rattle.refutation_log.specs.declared.entries.Entry.{Entry}
 use Rattle.solve_ground.specs.declared.texts.SolveText.{SolveText}
+use Rattle.truth_witness.specs.Logs.{ObligationLog}
 use Rattle.truth_witness.specs.Proved.{IsWitnessFor}
 use Rattle.witness_bounds.specs.declared.lines.WitnessPlace.{WitnessPlace}
 use Rattle.witness_bounds.specs.declared.lines.WitnessPlace.TheVariants.{Latch, Gate, Always, APart}
 use Rattle.witness_check.specs.declared.faults.ObligationFault.{ObligationFault}
 use Rattle.witness_check.specs.declared.faults.ObligationFault.TheVariants.{Head, Log, NoMemory}
+use Rattle.witness_check.specs.declared.faults.WitnessFault.{WitnessFault}
+use Rattle.witness_check.specs.declared.faults.WitnessFault.TheVariants.{At, OutOfMemory}
+use Rattle.witness_check.specs.Logs.{log_at}
 use Rattle.witness_check.specs.Order.{obligation_count}
 use Rattle.witness_text.specs.Places.{always_line}
 use Rattle.witness_text.specs.Reading.{WitnessLines, WitnessProof}
@@ -48,3 +52,8 @@ abbrev pub IsEntryOf : List Entry → ObligationFault → Type 0
 IsEntryOf entries Head = ⊤
 IsEntryOf entries (Log fault) = entry_place entries fault ≤ length entries
 IsEntryOf entries NoMemory = ⊤
+
+-- the fault is one of these logs
+abbrev pub IsFaultIn : List ObligationLog → WitnessFault → Type 0
+IsFaultIn logs (At k fault) = (k < length logs) × IsEntryOf (log_at logs k).entries fault
+IsFaultIn logs OutOfMemory = ⊤

@@ -4,13 +4,13 @@ ghost use Rattle.std.specs.Prelude.{◌≡◌, ◌≤◌, ◌+◌, ◌<◌, ◌^
 ghost use Rattle.text_limits.specs.declared.TheConstants.{CIRCUIT_VARIABLES};
 ghost use Rattle.truth_witness.specs.Witness.{Claim as AClaim};
 ghost use Rattle.witness_check.specs.Logs.{log_at};
-ghost use Rattle.witness_check.specs.Faults.{IsFirstAt};
+ghost use Rattle.witness_check.specs.Faults.{IsFirstAt, IsWitnessFault};
 ghost use Rattle.witness_text.specs.Places.{IsNumbered, lines_of_logs};
 ghost use Rattle.witness_text.specs.Reading.{WitnessLines as Lines};
 ghost use Rattle.witness_text.specs.States.{IsReadWell};
-ghost use Rattle.circuit_claims.specs.Claims.{HasForms, claim_for};
+ghost use Rattle.circuit_claims.specs.Claims.{HasForms, WereRead, claim_for};
 ghost use Rattle.circuit_claims.specs.Fails.{ProofsFail, WitnessFails, entry_place as place_of_entry, is_not_closed as not_closed, is_not_ended as not_ended, is_want_of_memory, outside_in};
-ghost use Rattle.circuit_claims.specs.Parts.{ArePlacedIn, IsBounded, IsEntryOf, lines_behind};
+ghost use Rattle.circuit_claims.specs.Parts.{ArePlacedIn, IsBounded, IsEntryOf, IsFaultIn, lines_behind};
 
 use aiger_text::Circuit;
 use letters_and_lassos::Side;
@@ -45,7 +45,8 @@ pub(crate) fn proofs_line(
     requires forms { HasForms text.now }
     requires few { circuit.now.variables ≤ CIRCUIT_VARIABLES }
     requires numbered { IsNumbered witness }
-    requires read { IsReadWell witness }
+    requires well { IsReadWell witness }
+    requires read { WereRead witness }
     requires bounded { outside_in text.now side circuit.now witness ≡ None }
     ensures { IfOk result (WitnessFails text.now side circuit.now witness.entry) }
 {
@@ -96,12 +97,27 @@ fn first_line(
     let logs = &proof.logs;
     match check_first_logs(alloc, &claim, logs) {
         Ok(()) => Ok(None),
-        Err(WitnessFault::OutOfMemory) => Err(AllocError),
-        Err(WitnessFault::At(place, fault)) => places.line_at(logs, place, fault),
+        Err(fault) => places.fault_line(logs, fault),
     }
 }
 
 impl ProofPlaces {
+    /// The line of a fault.
+    fn fault_line(
+        self,
+        logs: &[ObligationLog],
+        fault: WitnessFault,
+    ) -> Result<Option<u64>, AllocError>
+        requires within { IsFaultIn logs.now fault }
+        requires lines { self.first + lines_of_logs logs.now + 1 < 2 ^ 64 }
+        ensures { (x : AClaim) (w : Lines) → w.logs ≡ logs.now → ArePlacedIn w self → IsWitnessFault x logs.now fault → IfOk result (ProofsFail x w) }
+    {
+        match fault {
+            WitnessFault::OutOfMemory => Err(AllocError),
+            WitnessFault::At(place, fault) => self.line_at(logs, place, fault),
+        }
+    }
+
     /// The line at which a proof that is refused fails, if it does as far as it was read.
     fn line_at(
         self,

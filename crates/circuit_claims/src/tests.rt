@@ -4,7 +4,7 @@ ghost use Rattle.std.specs.Prelude.{◌≡◌, ◌≤◌, IfOk, None};
 ghost use Rattle.text_limits.specs.declared.TheConstants.{CIRCUIT_VARIABLES};
 ghost use Rattle.witness_text.specs.Places.{IsNumbered};
 ghost use Rattle.witness_text.specs.States.{IsReadWell};
-ghost use Rattle.circuit_claims.specs.Claims.{HasForms};
+ghost use Rattle.circuit_claims.specs.Claims.{HasForms, WereRead};
 ghost use Rattle.circuit_claims.specs.Parts.{IsPlaceIn};
 ghost use Rattle.circuit_claims.specs.Fails.{WitnessFails, outside_in as place_outside, place_line as line_of_place};
 
@@ -30,7 +30,8 @@ pub fn witness_line(
     requires forms { HasForms text.now }
     requires few { circuit.now.variables ≤ CIRCUIT_VARIABLES }
     requires numbered { IsNumbered witness }
-    requires read { IsReadWell witness }
+    requires well { IsReadWell witness }
+    requires read { WereRead witness }
     ensures { IfOk result (WitnessFails text.now side circuit.now witness.entry) }
 {
     match outside_in(alloc, text, side, circuit, &witness)? {
@@ -49,7 +50,7 @@ fn outside_in(
 ) -> Result<Option<WitnessPlace>, AllocError>
     requires forms { HasForms text.now }
     requires few { circuit.now.variables ≤ CIRCUIT_VARIABLES }
-    requires read { IsReadWell witness.now }
+    requires well { IsReadWell witness.now }
     ensures { IfOk result (λ place. place ≡ place_outside text.now side circuit.now witness.now) }
 {
     let Some(counts) = witness.counts else {

@@ -1,6 +1,6 @@
 //! The tests of a document's logs of sizes and of its witness.
 ghost use Rattle.std.specs.Prelude.{◌≡◌, ◌≤◌, All, IfOk, IfSome};
-ghost use Rattle.circuit_claims.specs.Claims.{HasForms};
+ghost use Rattle.circuit_claims.specs.Claims.{HasForms, WereRead};
 ghost use Rattle.size_refutations.specs.Parts.{IsReadLog};
 ghost use Rattle.text_limits.specs.declared.TheConstants.{CIRCUIT_VARIABLES};
 ghost use Rattle.witness_text.specs.Places.{IsNumbered};
@@ -34,6 +34,7 @@ pub(crate) fn behind_line(
     requires read { All IsReadLog sizes.now }
     requires numbered { IfSome witness IsNumbered }
     requires well { IfSome witness IsReadWell }
+    requires were_read { IfSome witness WereRead }
     ensures { IfOk result (BehindFails text.now side circuit.now sizes.now witness.entry front) }
 {
     if front.is_some() {
@@ -74,6 +75,7 @@ fn line_of_witness(
     requires few { circuit.now.variables ≤ CIRCUIT_VARIABLES }
     requires numbered { IfSome witness IsNumbered }
     requires well { IfSome witness IsReadWell }
+    requires were_read { IfSome witness WereRead }
     ensures { IfOk result (WitnessFailsIn text.now side circuit.now witness.entry) }
 {
     match witness {

@@ -1,6 +1,6 @@
 //! The tests that look at a document's lines.
-ghost use Rattle.std.specs.Prelude.{◌≡◌, ◌≤◌, All, IfOk};
-ghost use Rattle.circuit_claims.specs.Claims.{HasForms};
+ghost use Rattle.std.specs.Prelude.{◌≡◌, ◌≤◌, All, IfOk, IfSome};
+ghost use Rattle.circuit_claims.specs.Claims.{HasForms, WereRead};
 ghost use Rattle.size_refutations.specs.Parts.{IsReadLog};
 ghost use Rattle.text_limits.specs.declared.TheConstants.{CIRCUIT_VARIABLES};
 ghost use Rattle.witness_documents.specs.Places.{AreNumbered};
@@ -35,6 +35,7 @@ pub(crate) fn test_lines(
     requires numbered { AreNumbered lines }
     requires few { lines.file.circuit.variables ≤ CIRCUIT_VARIABLES }
     requires read { All IsReadLog lines.sizes }
+    requires witness { IfSome lines.witness WereRead }
     ensures { IfOk result (IsTested text.now lines.entry) }
 {
     let told = told_of(text, &lines);
