@@ -1,5 +1,4 @@
-use Rattle.std.proofs.Common.{◌≡◌, ◌+◌, ◌<◌, ◌≤◌, length, ap, rules, arith}
-use Rattle.std.proofs.lemmas.Grind.{common_steps}
+use Rattle.std.proofs.Common.{◌≡◌, ◌+◌, ◌<◌, ◌≤◌, length, ap, arith}
 use Rattle.truth_witness.specs.Variables.{occurring}
 use Rattle.witness_bounds.proofs.Occurring.{few_occur}
 use Rattle.witness_bounds.proofs.bounds.truth_count.Goals as goal
@@ -10,8 +9,9 @@ overflow_cast-result c =
     let few : length (occurring c.args.formulas.now c.args.form) ≤ c.args.form.0 + 1 = few_occur c.args.formulas.now c.args.form in
     let stands : c.args.form.0 < length c.args.formulas.now = c.requires in
     let most : length c.args.formulas.now ≤ 16384 = c.len-nodes.ensures.list.most in
-    let long : length c.in_ok-ids.ids.items ≤ 16384 = omega arith in
-    grind (arith, common_steps, long)
+    let long : length c.in_ok-ids.ids.items ≤ 16384 = omega (arith, same, few, stands, most) in
+    let count : c.len.result ≡ length c.in_ok-ids.ids.items = omega (arith, c.len.ensures, c.in_ok-ids.ids.ok.0) in
+    omega (arith, count, long)
 
 pub returns-clause-few : goal.returns-clause-few
 returns-clause-few c =
@@ -19,5 +19,6 @@ returns-clause-few c =
     let few : length (occurring c.args.formulas.now c.args.form) ≤ c.args.form.0 + 1 = few_occur c.args.formulas.now c.args.form in
     let stands : c.args.form.0 < length c.args.formulas.now = c.requires in
     let most : length c.args.formulas.now ≤ 16384 = c.len-nodes.ensures.list.most in
-    let long : length c.in_ok-ids.ids.items ≤ 16384 = omega arith in
-    grind (arith, common_steps, long)
+    let long : length c.in_ok-ids.ids.items ≤ 16384 = omega (arith, same, few, stands, most) in
+    let count : c.len.result ≡ length c.in_ok-ids.ids.items = omega (arith, c.len.ensures, c.in_ok-ids.ids.ok.0) in
+    omega (arith, count, long)
