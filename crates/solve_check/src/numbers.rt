@@ -35,7 +35,11 @@ pub(crate) fn number_line(alloc: Global, lines: &SolvedLines) -> Result<Option<u
 }
 
 /// The line, where the circuit doesn't reach so many states, or so many aren't counted.
-pub fn counted_line(alloc: Global, counted: Counted<'_>, line: u64) -> Result<Option<u64>, AllocError>
+pub fn counted_line(
+    alloc: Global,
+    counted: Counted<'_>,
+    line: u64,
+) -> Result<Option<u64>, AllocError>
     ensures { IfOk result (NumberFails counted.entry.circuit.now counted.entry.states line) }
 {
     let circuit = counted.circuit;

@@ -109,7 +109,11 @@ fn taken_line(lines: &WitnessedLines) -> u64
     ensures { result ≡ line_of_taken lines.now }
 {
     let kind = verdict_line(lines) + 1;
-    if lines.header.converted { kind + 1 } else { kind }
+    if lines.header.converted {
+        kind + 1
+    } else {
+        kind
+    }
 }
 
 /// What is told of good lines.
