@@ -10,7 +10,7 @@ use Rattle.annot_check.specs.declared.pairs.Pair.{Pair}
 use Rattle.annot_check.specs.declared.faults.AnnotFault.{AnnotFault}
 use Rattle.annot_check.specs.declared.faults.AnnotFault.TheVariants.{NoMemory}
 use Rattle.annot_check.specs.Valid.{IsValidPairList}
-use Rattle.annot_check.specs.Causes.{IsCause}
+use Rattle.annot_check.specs.Causes.{IsCause, IsOfKind}
 
 -- the automaton accepts no run lasso of the circuit, which plays this side
 pub record IsAcceptedCircuit (side : Side) (a : AutomatonModel) (c : Circuit) : Type 0 where
@@ -32,6 +32,10 @@ ValidListsShow c = (side : Side) (kind : Kind) (a : AutomatonModel) (pairs : Lis
 -- and it is of the kind
 abbrev pub ValidListsShowKind : Circuit → Type 0
 ValidListsShowKind c = (side : Side) (kind : Kind) (a : AutomatonModel) (pairs : List Pair) → IsValidPairList side c kind a pairs → IsCircuitOfKind kind c
+
+-- So is one of whose outputs none leads to an input, where the kind is Moore.
+abbrev pub WritesShowKind : Circuit → Type 0
+WritesShowKind c = (kind : Kind) → IsOfKind c kind → IsCircuitOfKind kind c
 
 -- so it satisfies whatever is false on accepted lassos alone
 abbrev pub ValidListsSatisfy : Circuit → Type 0

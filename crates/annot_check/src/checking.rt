@@ -45,7 +45,7 @@ pub fn check_annotation(
     if !product.starts()? {
         return Err(AnnotFault::NoStart);
     }
-    if let Some(output) = by_input(alloc, circuit, kind)? {
+    if let Some(output) = output_by_input(alloc, circuit, kind)? {
         return Err(AnnotFault::NotMoore(output));
     }
     match product.first_broken(&pairs.pairs)? {
@@ -54,8 +54,12 @@ pub fn check_annotation(
     }
 }
 
-/// The first output that leads to an input, where the kind is Moore.
-fn by_input(alloc: Global, circuit: &Circuit, kind: Kind) -> Result<Option<usize>, AllocError>
+/// The first output that leads to an input, where the kind is Moore. Linear in the circuit where gates stand behind those that they use.
+pub fn output_by_input(
+    alloc: Global,
+    circuit: &Circuit,
+    kind: Kind,
+) -> Result<Option<usize>, AllocError>
     ensures { IfOk result (λ found. MatchOption found (IsOfKind circuit.now kind) (λ output. (kind ≡ Moore) × IsFirstByInput circuit.now output)) }
 {
     match kind {

@@ -1,6 +1,6 @@
 //! Laws of valid lists of pairs and of the texts that state them. Each is the contract of a function that does nothing.
 
-ghost use Rattle.annot_check.specs.Laws.{CausesAreApart, ValidListsSatisfy, ValidListsShow, ValidListsShowKind};
+ghost use Rattle.annot_check.specs.Laws.{CausesAreApart, ValidListsSatisfy, ValidListsShow, ValidListsShowKind, WritesShowKind};
 ghost use Rattle.annot_check.specs.Stated.{ReadingsAreApart};
 
 use aiger_text::Circuit;
@@ -15,6 +15,13 @@ pub fn valid_lists_show(circuit: &Circuit)
 /// A circuit with a valid list of pairs is of the kind.
 pub fn valid_lists_show_kind(circuit: &Circuit)
     ensures { ValidListsShowKind circuit.now }
+{
+    let _latches = &circuit.latches;
+}
+
+/// A circuit is of the kind where its outputs' literals show it.
+pub fn writes_show_kind(circuit: &Circuit)
+    ensures { WritesShowKind circuit.now }
 {
     let _latches = &circuit.latches;
 }

@@ -16,7 +16,7 @@ mod reads;
 mod steps;
 mod words;
 
-pub use checking::check_annotation;
+pub use checking::{check_annotation, output_by_input};
 pub use faults::AnnotFault;
 pub use pairs::{Code, Pair, PairList};
 pub use reading::{Head, PairLines, find_head, read_annotation, read_pairs};

@@ -35,7 +35,8 @@ module _ (last n : ℕ) (bytes tail rest : List ℕ) (head : Head) (entries : Li
       let f = fit next are in
       record { entries = λ k d less. (are.stated.writable k d less).within; lines = omega (arith, f, small) }
 
-logs_read : (refuted last n : ℕ) (bytes : List ℕ) (read : LogsRead) → ReadsLogs refuted last n bytes read → n + length bytes + 2 < 2 ^ 64 → All IsReadLog read.logs
+-- the logs of the lines from n on that are read
+pub logs_read : (refuted last n : ℕ) (bytes : List ℕ) (read : LogsRead) → ReadsLogs refuted last n bytes read → n + length bytes + 2 < 2 ^ 64 → All IsReadLog read.logs
 logs_read refuted last n bytes read (ended l m bs e) small = none_read
 logs_read refuted last n bytes read (no_head l m bs e f) small = none_read
 logs_read refuted last n bytes read (stopped l m bs h t xs r e f g few) small =

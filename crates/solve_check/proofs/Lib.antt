@@ -1,4 +1,4 @@
-mod Meaning
+pub mod Meaning
 mod Bounds
 mod Never
 mod Same

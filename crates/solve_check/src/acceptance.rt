@@ -69,7 +69,8 @@ fn push_numbered(line: &mut Vec<u8>, words: &[u8], number: u64) -> Result<(), Al
     Ok(())
 }
 
-fn push_semantics(line: &mut Vec<u8>, semantics: Option<Kind>) -> Result<(), AllocError>
+/// Appends the SEMANTICS of a text that was converted.
+pub fn push_semantics(line: &mut Vec<u8>, semantics: Option<Kind>) -> Result<(), AllocError>
     ensures { OnOk result (line.new.items ≡ line.old.items ++ semantics_words semantics) }
 {
     let Some(kind) = semantics else {
@@ -92,7 +93,7 @@ fn push_sizes(line: &mut Vec<u8>, verdict: Verdict, refuted: u64) -> Result<(), 
 }
 
 /// Appends whether so many states are the fewest, where the sizes from 1 to this number are refuted.
-fn push_fewer(line: &mut Vec<u8>, states: u64, refuted: u64) -> Result<(), AllocError>
+pub fn push_fewer(line: &mut Vec<u8>, states: u64, refuted: u64) -> Result<(), AllocError>
     ensures { OnOk result (line.new.items ≡ line.old.items ++ fewer_words states refuted) }
 {
     if states.checked_sub(1) == Some(refuted) {

@@ -9,7 +9,7 @@ use ltl_formula::FormulaId;
 use solve_ground::SolveText;
 
 /// The names of a text.
-pub(crate) fn names_of(text: &SolveText) -> TextNames<'_>
+pub fn names_of(text: &SolveText) -> TextNames<'_>
     ensures { names_shown result ≡ names_in text.now }
 {
     TextNames {
@@ -19,7 +19,7 @@ pub(crate) fn names_of(text: &SolveText) -> TextNames<'_>
 }
 
 /// The kind of a side's machines.
-pub(crate) fn kind_for(text: &SolveText, side: Side) -> Kind
+pub fn kind_for(text: &SolveText, side: Side) -> Kind
     ensures { result ≡ kind_of_side text.now side }
 {
     match side {
@@ -29,7 +29,7 @@ pub(crate) fn kind_for(text: &SolveText, side: Side) -> Kind
 }
 
 /// What a side keeps from being true.
-pub(crate) fn form_for(text: &SolveText, side: Side) -> FormulaId
+pub fn form_for(text: &SolveText, side: Side) -> FormulaId
     ensures { result ≡ form_of_side text.now side }
 {
     match side {
@@ -39,7 +39,7 @@ pub(crate) fn form_for(text: &SolveText, side: Side) -> FormulaId
 }
 
 /// Whether the text is taken for machines of this kind, and converted exactly where that is said.
-pub(crate) fn is_taken_so(text: &SolveText, kind: Kind, converted: bool) -> bool
+pub fn is_taken_so(text: &SolveText, kind: Kind, converted: bool) -> bool
     ensures { result ≡ taken_as_said text.now kind converted }
 {
     text.kind == kind && text.semantics.is_some() == converted

@@ -17,6 +17,9 @@ mod line_tests;
 mod numbers;
 mod size_logs;
 
-pub use acceptance::{Acceptance, accepted_line};
+pub use acceptance::{Acceptance, accepted_line, push_fewer, push_semantics};
 pub use asked::asked_text;
 pub use checking::{Checked, check_solved};
+pub use given::{form_for, is_taken_so, kind_for, names_of};
+pub use numbers::{Counted, counted_line};
+pub use size_logs::logs_line;

@@ -18,9 +18,9 @@ const MOST_STEPS: u64 = 67_108_864;
 
 /// A circuit, and how many states it is said to reach.
 #[derive(Clone, Copy)]
-pub(crate) struct Counted<'a> {
-    pub(crate) circuit: &'a Circuit,
-    pub(crate) states: u32,
+pub struct Counted<'a> {
+    pub circuit: &'a Circuit,
+    pub states: u32,
 }
 
 /// The verdict's line, where its circuit doesn't reach as many states as it says, or so many aren't counted. Nothing is counted where
@@ -34,7 +34,12 @@ pub(crate) fn number_line(alloc: Global, lines: &SolvedLines) -> Result<Option<u
     counted_line(alloc, counted, lines.verdict_line)
 }
 
-fn counted_line(alloc: Global, counted: Counted<'_>, line: u64) -> Result<Option<u64>, AllocError>
+/// The line, where the circuit doesn't reach so many states, or so many aren't counted.
+pub fn counted_line(
+    alloc: Global,
+    counted: Counted<'_>,
+    line: u64,
+) -> Result<Option<u64>, AllocError>
     ensures { IfOk result (NumberFails counted.entry.circuit.now counted.entry.states line) }
 {
     let circuit = counted.circuit;

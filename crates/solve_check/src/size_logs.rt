@@ -13,7 +13,7 @@ use std::alloc::{AllocError, Global};
 
 /// The line at which the first log that fails for the text does so. The side's automaton is made only where there is a log, and once for all of
 /// them.
-pub(crate) fn logs_line(
+pub fn logs_line(
     alloc: Global,
     text: &SolveText,
     side: Side,

@@ -2,7 +2,7 @@ use Rattle.std.proofs.Common.{refl, subst}
 use Rattle.truth_witness.specs.Obligations.{clauses_of, variables_of}
 use Rattle.witness_check.specs.Logs.{HoldsOver}
 use Rattle.witness_check.proofs.Holding.{tested_more}
-use Rattle.witness_check.proofs.check.test_logs.Goals as goal
+use Rattle.witness_check.proofs.check.check_first_logs.Goals as goal
 
 pub loop-place-preserved : goal.loop-place-preserved
 loop-place-preserved c =

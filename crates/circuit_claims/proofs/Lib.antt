@@ -1,0 +1,3 @@
+pub mod Showing
+pub mod WholeLines
+pub mod Tested

@@ -1,0 +1,4 @@
+pub mod Claims
+pub mod Fails
+pub mod Parts
+pub mod Laws
