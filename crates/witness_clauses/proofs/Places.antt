@@ -1,5 +1,5 @@
 -- The ids that occur rise, so the place of one is found by a binary search.
-use Rattle.std.proofs.Common.{◌≡◌, ◌≢◌, ℕ, zero, suc, ◌<◌, ◌≤◌, true, false, ltb, List, [], ◌∷◌, length, get_or, refl, sym, ap, ◌∙◌, arith, inl, inr}
+use Rattle.std.proofs.Common.{◌≡◌, ◌≢◌, ℕ, zero, suc, ◌<◌, ◌≤◌, true, false, ltb, List, [], ◌∷◌, length, get_or, refl, sym, ap, ◌∙◌, arith, inl, inr, tt}
 use Rattle.std.specs.Prelude.{nat_eq, ⊤}
 use Rattle.std.specs.List.Sorted.{IsNonDecreasingBy, IsPartitionPoint}
 use Rattle.std.proofs.lemmas.Bool.{cases_eq, cases_lt, cond_both, cond-false, cond-true, eq-eqb, ltb-false, ltb-true, ne_eqb}
@@ -9,7 +9,7 @@ use Rattle.truth_witness.specs.Variables.{is_part_of_one, occurring, place_of, w
 use Rattle.witness_clauses.specs.Marks.{Rise}
 
 -- each is above those before it, and none is below a number
-RiseFrom : ℕ → List ℕ → Type 0
+abbrev RiseFrom : ℕ → List ℕ → Type 0
 RiseFrom n [] = ⊤
 RiseFrom n (m ∷ ms) = (n ≤ m) × RiseFrom (suc m) ms
 
@@ -39,7 +39,7 @@ rise_at n (m ∷ ms) r zero (suc j) d less h = above (suc m) ms r.1 j d (omega a
 rise_at n (m ∷ ms) r (suc i) (suc j) d less h = rise_at (suc m) ms r.1 i j d (omega arith) (omega arith)
 
 pub occurring_rises : (nodes : List Node) (f : FormulaId) → Rise (occurring nodes f)
-occurring_rises nodes f = record { rise = rise_at 0 (occurring nodes f) (all_from nodes f.0 (f.0 ∷ []) (omega arith, record {})) }
+occurring_rises nodes f = record { rise = rise_at 0 (occurring nodes f) (all_from nodes f.0 (f.0 ∷ []) (omega arith, tt)) }
 
 pub rising : (ids : List ℕ) → Rise ids → IsNonDecreasingBy (λ (g : ℕ). g) ids
 rising ids r i j d le h =
