@@ -7,7 +7,7 @@ use std::alloc::{AllocError, Global};
 const NONE: u32 = u32::MAX;
 
 /// For each pair the number of its component; no way leads to a smaller one. Linear in the ways, but that they are sorted once.
-pub(crate) fn components(
+pub fn components_of(
     alloc: Global,
     count: usize,
     ways: &[Way],

@@ -11,7 +11,9 @@ mod product;
 mod states;
 mod stops;
 
+pub use components::components_of;
 pub use counting::count_states;
 pub use lines::{Made, Maker, annotation_of};
+pub use product::Way;
 pub use states::{Edge, MetStates};
 pub use stops::{Limit, Stop};

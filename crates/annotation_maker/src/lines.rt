@@ -1,6 +1,6 @@
 //! The lines of an annotation.
 
-use crate::components::{components, has_rejecting_ring, least_numbers};
+use crate::components::{components_of, has_rejecting_ring, least_numbers};
 use crate::product::{Product, reached};
 use crate::states::MetStates;
 use crate::stops::{Limit, Stop};
@@ -73,7 +73,7 @@ fn numbers_of(
     met: &MetStates<'_>,
 ) -> Result<Option<Vec<u32>>, AllocError> {
     let rejects = rejecting(alloc, product, met)?;
-    let component = components(alloc, product.pairs.len(), &product.ways)?;
+    let component = components_of(alloc, product.pairs.len(), &product.ways)?;
     if has_rejecting_ring(&component, &product.ways, &rejects) {
         return Ok(None);
     }

@@ -1,4 +1,5 @@
 pub mod Made
+pub mod Places
 pub mod Marking
 pub mod Numbering
 pub mod Bounds

@@ -4,6 +4,7 @@ use Rattle.ltl_formula.specs.Nodes.{IsNodeIn, IsNodeList}
 use Rattle.aiger_text.specs.CircuitType.{IsCircuit}
 use Rattle.truth_witness.specs.Witness.{Claim}
 use Rattle.witness_clauses.specs.declared.claims.Claimed.{Claimed}
+use Rattle.witness_clauses.specs.Marks.{Rise}
 use Rattle.truth_witness.specs.Variables.{ids, ids_end, latches_end, frame_size}
 
 -- the claim is about a circuit and a formula of a list, and its frames have few variables, so that all literals are numbers of the logs
@@ -17,6 +18,7 @@ pub record IsCountable (x : Claim) : Type 0 where
 pub record IsCounted (x : Claim) (occurring : List ℕ) (ids_to latches_to size : ℕ) : Type 0 where
   pub countable : IsCountable x
   pub ids_are : occurring ≡ ids x
+  pub ids_rise : Rise occurring
   pub ids_end_is : ids_to ≡ ids_end x
   pub latches_end_is : latches_to ≡ latches_end x
   pub size_is : size ≡ frame_size x

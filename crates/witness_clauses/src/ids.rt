@@ -3,7 +3,7 @@
 ghost use Rattle.std.specs.Prelude.{◌≡◌, ◌<◌, ◌≤◌, ◌∷◌, [], IfOk, length};
 ghost use Rattle.ltl_formula.specs.Nodes.{IsNodeIn, PartsBelow};
 ghost use Rattle.truth_witness.specs.Variables.{occurring, parts_of, place_of};
-ghost use Rattle.witness_clauses.specs.Marks.{AddsMarks};
+ghost use Rattle.witness_clauses.specs.Marks.{AddsMarks, Rise};
 
 use ltl_formula::{FormulaId, Formulas, Node};
 use std::alloc::{AllocError, Global};
@@ -15,7 +15,8 @@ pub fn occurring(
     form: FormulaId,
 ) -> Result<Vec<u32>, AllocError>
     requires { IsNodeIn formulas.now form }
-    ensures { IfOk result (λ ids. ids.items ≡ occurring formulas.now form) }
+    ensures ids { IfOk result (λ ids. ids.items ≡ occurring formulas.now form) }
+    ensures rise { IfOk result (λ ids. Rise ids.items) }
 {
     let mut ids = Vec::new(alloc);
     let mut marks = vec![in alloc; false; formulas.len()]?;
@@ -65,15 +66,16 @@ fn mark(marks: &mut Vec<bool>, id: FormulaId)
     marks[id.0 as usize] = true;
 }
 
-/// How many of the ids stand before this one.
+/// How many of the ids, which rise, stand before this one. Costs a binary search.
 pub(crate) fn place_of(ids: &[u32], id: u32) -> usize
+    requires { Rise ids.now }
     ensures place { result ≡ place_of id ids.now }
     ensures small { result ≤ length ids.now }
 {
-    for (place, other) in ids.iter().enumerate() {
-        if *other == id {
-            return place;
-        }
+    let place = ids.partition_point(|other| *other < id);
+    if place < ids.len() && ids[place] == id {
+        place
+    } else {
+        ids.len()
     }
-    ids.len()
 }
