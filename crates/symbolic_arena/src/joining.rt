@@ -172,7 +172,13 @@ impl Join {
             None => Function::FALSE,
         };
         let mut latches = Vec::new(alloc);
-        for ((purpose, variable), next) in builder.plan.latches.iter().zip(&builder.latches).zip(&builder.next) {
+        for ((purpose, variable), next) in builder
+            .plan
+            .latches
+            .iter()
+            .zip(&builder.latches)
+            .zip(&builder.next)
+        {
             if let Some(variable) = variable {
                 latches.push(Latch {
                     variable: *variable,

@@ -76,19 +76,19 @@ fn groups(alloc: Global, signals: Signals<'_>) -> Result<Vec<Group>, AllocError>
     Ok(groups)
 }
 
-/// The number with which a name ends.
+/// The last number in a name.
 fn number_of(name: &Name) -> Option<u64> {
-    let bytes = name.bytes();
     let mut number = None;
     let mut factor = 1u64;
-    for byte in bytes.iter().rev() {
-        if !byte.is_ascii_digit() {
+    for byte in name.bytes().iter().rev() {
+        if byte.is_ascii_digit() {
+            let digit = u64::from(byte.saturating_sub(b'0'));
+            let more = digit.saturating_mul(factor);
+            number = Some(number.unwrap_or(0u64).saturating_add(more));
+            factor = factor.saturating_mul(10);
+        } else if number.is_some() {
             break;
         }
-        let digit = u64::from(byte.saturating_sub(b'0'));
-        let more = digit.saturating_mul(factor);
-        number = Some(number.unwrap_or(0u64).saturating_add(more));
-        factor = factor.saturating_mul(10);
     }
     number
 }

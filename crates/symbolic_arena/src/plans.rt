@@ -147,8 +147,7 @@ impl Plan {
     }
 
     fn plan_explicit(&mut self, number: u32, form: FormId) -> Result<Explored, Stop> {
-        let explored =
-            Explored::new(self.alloc, &self.forms, form, self.order, &mut self.leaves)?;
+        let explored = Explored::new(self.alloc, &self.forms, form, self.order, &mut self.leaves)?;
         let reads = self.signals_of(form)?;
         for bit in 0..explored.bits() {
             self.add_latch(Purpose::State { piece: number, bit }, reads)?;
@@ -297,7 +296,10 @@ impl Plan {
 
     /// How many bits number the goals, and the assumptions that ask for something good.
     pub(crate) fn turns(&self) -> u32 {
-        bits_for(self.count_live(Role::Assumption).max(self.count_live(Role::Guarantee)))
+        bits_for(
+            self.count_live(Role::Assumption)
+                .max(self.count_live(Role::Guarantee)),
+        )
     }
 
     fn count_live(&self, role: Role) -> usize {

@@ -55,13 +55,16 @@ impl Splitter<'_> {
         let disjuncts = self.disjuncts(asked)?;
         let unless = disjuncts.bounded;
         if disjuncts.others.is_empty() {
-            return self.only(conjunct, Timed {
-                from,
-                again,
-                unless,
-                later: 0,
-                asks: Asks::Nothing,
-            });
+            return self.only(
+                conjunct,
+                Timed {
+                    from,
+                    again,
+                    unless,
+                    later: 0,
+                    asks: Asks::Nothing,
+                },
+            );
         }
         if let Some(answer) = self.answer(&disjuncts.others)? {
             return self.answered(conjunct, from, again, unless, answer);
@@ -110,13 +113,16 @@ impl Splitter<'_> {
         if again && self.forms.form(unless) == Form::False {
             return self.if_near(conjunct, answer.form, Piece::Recurs(answer.form));
         }
-        self.only(conjunct, Timed {
-            from,
-            again,
-            unless,
-            later: answer.by,
-            asks: Asks::Come(answer.form),
-        })
+        self.only(
+            conjunct,
+            Timed {
+                from,
+                again,
+                unless,
+                later: answer.by,
+                asks: Asks::Come(answer.form),
+            },
+        )
     }
 
     /// `unless || X .. (a R b)`, or with an until in place of the release, which is two pieces.
@@ -138,21 +144,30 @@ impl Splitter<'_> {
         };
         match self.forms.form(shifted.form) {
             Form::Release(released, kept) if self.are_bounded(released, kept)? => {
-                self.only(conjunct, Timed {
-                    asks: Asks::Hold { released, kept },
-                    ..timed
-                })
+                self.only(
+                    conjunct,
+                    Timed {
+                        asks: Asks::Hold { released, kept },
+                        ..timed
+                    },
+                )
             }
             Form::Until(a, b) if self.are_bounded(a, b)? => {
                 let kept = self.forms.add(Form::Or(a, b))?;
-                let mut pieces = self.only(conjunct, Timed {
-                    asks: Asks::Hold { released: b, kept },
-                    ..timed
-                })?;
-                let come = self.only(conjunct, Timed {
-                    asks: Asks::Come(b),
-                    ..timed
-                })?;
+                let mut pieces = self.only(
+                    conjunct,
+                    Timed {
+                        asks: Asks::Hold { released: b, kept },
+                        ..timed
+                    },
+                )?;
+                let come = self.only(
+                    conjunct,
+                    Timed {
+                        asks: Asks::Come(b),
+                        ..timed
+                    },
+                )?;
                 pieces.extend_from_slice(&come)?;
                 Ok(pieces)
             }

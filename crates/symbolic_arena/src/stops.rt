@@ -1,7 +1,7 @@
 //! Why there is no arena, or why a game on it ends before it is decided.
 
-use conjuncts::{FormId, Refusal};
 use conjunct_monitors::Limit;
+use conjuncts::{FormId, Refusal};
 use decision_diagrams::DiagramFault;
 use std::alloc::{AllocError, AllocFailed};
 
@@ -48,7 +48,7 @@ impl From<Refusal> for Stop {
 impl From<DiagramFault> for Stop {
     fn from(fault: DiagramFault) -> Stop {
         match fault {
-            DiagramFault::NoMemory => Stop::NoMemory,
+            DiagramFault::OutOfMemory => Stop::NoMemory,
             _ => Stop::Diagrams(fault),
         }
     }

@@ -33,10 +33,6 @@ impl Timed {
 }
 
 /// How many letters ahead a form looks, which has a bound.
-pub(crate) fn depth(
-    forms: &Forms,
-    depths: &mut Depths,
-    form: FormId,
-) -> Result<u32, AllocError> {
+pub(crate) fn depth(forms: &Forms, depths: &mut Depths, form: FormId) -> Result<u32, AllocError> {
     Ok(depths.of(forms, form)?.unwrap_or(0))
 }

@@ -229,7 +229,9 @@ impl Search<'_> {
 
     /// Where an innermost fixpoint begins: within the region, and within what it came to when the goal was taken before.
     fn begin(&mut self, goal: usize, round: u32, assumption: usize) -> Result<Function, Stop> {
-        let before = self.came_to(goal, round, assumption).unwrap_or(Function::TRUE);
+        let before = self
+            .came_to(goal, round, assumption)
+            .unwrap_or(Function::TRUE);
         Ok(self.diagrams.and(self.region, before)?)
     }
 
@@ -247,7 +249,11 @@ impl Search<'_> {
         begin: Function,
         deadline: &D,
     ) -> Result<Function, Stop> {
-        let met = self.assumptions.get(assumption).copied().unwrap_or(Function::TRUE);
+        let met = self
+            .assumptions
+            .get(assumption)
+            .copied()
+            .unwrap_or(Function::TRUE);
         let mut region = begin;
         for _ in 0..u64::MAX {
             self.take_turn(deadline)?;

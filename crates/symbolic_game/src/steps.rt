@@ -38,12 +38,20 @@ impl Step {
     }
 
     /// That latches have these values behind a step.
-    pub(crate) fn after(&self, diagrams: &mut Diagrams, values: Function) -> Result<Function, Stop> {
+    pub(crate) fn after(
+        &self,
+        diagrams: &mut Diagrams,
+        values: Function,
+    ) -> Result<Function, Stop> {
         Ok(diagrams.compose(values, &self.next)?)
     }
 
     /// The values at which the system can make a step that is one of these, and not bad.
-    pub(crate) fn can_make(&self, diagrams: &mut Diagrams, steps: Function) -> Result<Function, Stop> {
+    pub(crate) fn can_make(
+        &self,
+        diagrams: &mut Diagrams,
+        steps: Function,
+    ) -> Result<Function, Stop> {
         match self.kind {
             Kind::Mealy => {
                 let answered = diagrams.and_exists(steps, self.fine, self.outputs)?;
@@ -58,7 +66,11 @@ impl Step {
     }
 
     /// Whether the start is in a region.
-    pub(crate) fn starts_in(&self, diagrams: &mut Diagrams, region: Function) -> Result<bool, Stop> {
+    pub(crate) fn starts_in(
+        &self,
+        diagrams: &mut Diagrams,
+        region: Function,
+    ) -> Result<bool, Stop> {
         Ok(diagrams.and(self.start, region)? != Function::FALSE)
     }
 }

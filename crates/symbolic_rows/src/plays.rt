@@ -49,7 +49,11 @@ fn played(alloc: Global, known: &SolveText, strictness: Strictness) -> Result<St
         inputs: &known.inputs,
         outputs: &known.outputs,
     };
-    let limits = DiagramLimits { nodes: 3_000_000 };
+    let limits = DiagramLimits {
+        nodes: 3_000_000,
+        bytes: 1_000_000_000,
+        cache: 1 << 20,
+    };
     let mut arena = Arena::new(alloc, conjuncts, signals, strictness, limits)?;
     let solution = solve(alloc, &mut arena, known.kind, &NoDeadline)?;
     let sound = if arena.is_sound_for(solution.winner) {
@@ -66,6 +70,8 @@ fn played(alloc: Global, known: &SolveText, strictness: Strictness) -> Result<St
     let assumptions = arena.assumptions.len();
     let turns = solution.turns;
     let nodes = arena.diagrams.nodes();
-    let line = format!(in alloc; "{strictness:?} {sound} {winner} latches {latches} goals {goals} assumptions {assumptions} turns {turns} nodes {nodes}\n")?;
+    let line = format!(in alloc;
+        "{strictness:?} {sound} {winner} latches {latches} goals {goals} assumptions {assumptions} turns {turns} nodes {nodes}\n"
+    )?;
     Ok(line)
 }
