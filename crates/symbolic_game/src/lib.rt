@@ -5,6 +5,8 @@
 mod fixpoints;
 mod solutions;
 mod steps;
+mod strategies;
 
 pub use fixpoints::solve;
 pub use solutions::{Layer, Loss, Solution};
+pub use strategies::{Strategy, Turn, strategy};

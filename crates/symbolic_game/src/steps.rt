@@ -65,6 +65,30 @@ impl Step {
         }
     }
 
+    /// Steps as the system chooses among them: where it moves first, those that are steps for all inputs.
+    pub(crate) fn as_system_sees(
+        &self,
+        diagrams: &mut Diagrams,
+        steps: Function,
+    ) -> Result<Function, Stop> {
+        match self.kind {
+            Kind::Mealy => Ok(steps),
+            Kind::Moore => Ok(diagrams.forall(steps, self.inputs)?),
+        }
+    }
+
+    /// Steps as the environment chooses among them: where it moves first, those that are steps for all outputs.
+    pub(crate) fn as_environment_sees(
+        &self,
+        diagrams: &mut Diagrams,
+        steps: Function,
+    ) -> Result<Function, Stop> {
+        match self.kind {
+            Kind::Mealy => Ok(diagrams.forall(steps, self.outputs)?),
+            Kind::Moore => Ok(steps),
+        }
+    }
+
     /// Whether the start is in a region.
     pub(crate) fn starts_in(
         &self,

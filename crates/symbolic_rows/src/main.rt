@@ -3,8 +3,13 @@
 //! its form on lassos.
 #![tactic(auto)]
 
+mod drawn_forms;
+mod lassos;
+mod monitors;
 mod plays;
+mod runs;
 
+use monitors::push_monitors;
 use plays::push_row;
 use std::io::{BufRead, Write};
 
@@ -38,5 +43,7 @@ fn main(rt: HostRuntime) -> anyhow::Result<()> {
         }
         line.clear();
     }
+    push_monitors(alloc, &mut out)?;
+    rt.stdout().write_all(&out)?;
     Ok(())
 }
