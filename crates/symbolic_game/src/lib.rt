@@ -2,11 +2,13 @@
 //! that it is safe and returns: each circuit that comes of it is tested by a witness. It stands on symbolic_arena.
 #![tactic(auto)]
 
+mod choices;
 mod fixpoints;
 mod solutions;
 mod steps;
 mod strategies;
 
+pub use choices::{Choice, choices};
 pub use fixpoints::solve;
 pub use solutions::{Layer, Loss, Solution};
 pub use strategies::{Strategy, Turn, strategy};

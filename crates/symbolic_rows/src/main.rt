@@ -3,12 +3,14 @@
 //! its form on lassos.
 #![tactic(auto)]
 
+mod contests;
 mod drawn_forms;
 mod lassos;
 mod monitors;
 mod plays;
 mod runs;
 
+use contests::push_contests;
 use monitors::push_monitors;
 use plays::push_row;
 use std::io::{BufRead, Write};
@@ -44,6 +46,7 @@ fn main(rt: HostRuntime) -> anyhow::Result<()> {
         line.clear();
     }
     push_monitors(alloc, &mut out)?;
+    push_contests(alloc, &mut out)?;
     rt.stdout().write_all(&out)?;
     Ok(())
 }

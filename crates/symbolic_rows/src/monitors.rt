@@ -101,7 +101,7 @@ fn add_if(count: &mut u32, is_so: bool) {
     *count = count.saturating_add(u32::from(is_so));
 }
 
-fn any_sort(random: &mut Pcg32) -> Sort {
+pub(crate) fn any_sort(random: &mut Pcg32) -> Sort {
     use rand_core::utils::NextWord;
     match SORTS.get((random.next_word() % 12) as usize) {
         Some((sort, _)) => *sort,
@@ -124,35 +124,47 @@ fn arena(
     guarantee: Option<Conjunct>,
     strictness: Strictness,
 ) -> Result<Arena, Stop> {
-    let mut conjuncts = Conjuncts {
-        forms: copied(alloc, forms)?,
-        assumptions: Vec::new(alloc),
-        guarantees: Vec::new(alloc),
-    };
+    let mut assumptions = Vec::new(alloc);
+    let mut guarantees = Vec::new(alloc);
     if let Some(assumption) = assumption {
-        conjuncts.assumptions.push(assumption)?;
+        assumptions.push(assumption)?;
     }
     if let Some(guarantee) = guarantee {
-        conjuncts.guarantees.push(guarantee)?;
+        guarantees.push(guarantee)?;
     }
-    let names = [
-        Name::new(alloc, b"a")?,
-        Name::new(alloc, b"b")?,
-        Name::new(alloc, b"c")?,
-    ];
-    let signals = Signals {
-        inputs: &names,
-        outputs: &[],
+    let forms = copied(alloc, forms)?;
+    arena_of(alloc, forms, assumptions, guarantees, strictness)
+}
+
+/// The arena of conjuncts over two inputs and an output.
+pub(crate) fn arena_of(
+    alloc: Global,
+    forms: Forms,
+    assumptions: Vec<Conjunct>,
+    guarantees: Vec<Conjunct>,
+    strictness: Strictness,
+) -> Result<Arena, Stop> {
+    let conjuncts = Conjuncts {
+        forms,
+        assumptions,
+        guarantees,
     };
-    Arena::new(alloc, conjuncts, signals, strictness, DiagramLimits {
+    let inputs = [Name::new(alloc, b"a")?, Name::new(alloc, b"b")?];
+    let outputs = [Name::new(alloc, b"c")?];
+    let signals = Signals {
+        inputs: &inputs,
+        outputs: &outputs,
+    };
+    let limits = DiagramLimits {
         nodes: 1 << 20,
         bytes: 1 << 28,
         cache: 1 << 16,
-    })
+    };
+    Arena::new(alloc, conjuncts, signals, strictness, limits)
 }
 
 /// The same forms under the same ids.
-fn copied(alloc: Global, forms: &Forms) -> Result<Forms, Stop> {
+pub(crate) fn copied(alloc: Global, forms: &Forms) -> Result<Forms, Stop> {
     let mut copy = Forms::new(alloc);
     for place in 0..u32::MAX {
         let form = forms.form(FormId(place));

@@ -31,7 +31,7 @@ struct Moment {
 
 /// What an arena tells of a lasso.
 pub(crate) fn told_on(alloc: Global, arena: &mut Arena, word: &Word) -> Result<Told, Stop> {
-    let mut values = vec![in alloc; false; count(arena)]?;
+    let mut values = vec![in alloc; false; variables(arena)]?;
     let mut moments: Vec<Moment> = Vec::new(alloc);
     let mut position = 0usize;
     for _ in 0..MOST_STEPS {
@@ -46,14 +46,15 @@ pub(crate) fn told_on(alloc: Global, arena: &mut Arena, word: &Word) -> Result<T
     Err(Stop::Time)
 }
 
-fn count(arena: &Arena) -> usize {
+/// How many variables an arena has.
+pub(crate) fn variables(arena: &Arena) -> usize {
     let signals = arena.inputs.len().saturating_add(arena.outputs.len());
     signals
         .saturating_add(arena.latches.len())
         .saturating_add(arena.turns.len())
 }
 
-fn set_letter(arena: &Arena, word: &Word, position: usize, values: &mut [bool]) {
+pub(crate) fn set_letter(arena: &Arena, word: &Word, position: usize, values: &mut [bool]) {
     let signals = arena.inputs.iter().chain(&arena.outputs);
     for (signal, variable) in (0u32..64).zip(signals) {
         set(values, *variable, word.has(position, signal));
@@ -105,7 +106,7 @@ fn happened(
     Ok(happened)
 }
 
-fn next_values(alloc: Global, arena: &Arena, values: &[bool]) -> Result<Vec<bool>, AllocError> {
+pub(crate) fn next_values(alloc: Global, arena: &Arena, values: &[bool]) -> Result<Vec<bool>, AllocError> {
     let mut next = vec![in alloc; false; values.len()]?;
     for latch in &arena.latches {
         set(&mut next, latch.variable, holds(arena, latch.next, values));
