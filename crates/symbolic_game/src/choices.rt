@@ -24,13 +24,13 @@ pub fn choices(
     };
     let mut choices = Vec::new(alloc);
     for turn in &strategy.turns {
-        choices.push(choice(alloc, &mut arena.diagrams, &own, strategy.region, *turn)?)?;
+        choices.push(choice_at(alloc, &mut arena.diagrams, &own, strategy.region, *turn)?)?;
     }
     Ok(choices)
 }
 
 /// What the winner does at one turn.
-fn choice(
+fn choice_at(
     alloc: Global,
     diagrams: &mut Diagrams,
     own: &[Variable],

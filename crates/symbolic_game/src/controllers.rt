@@ -28,7 +28,7 @@ pub struct Controller {
 }
 
 /// The controller that plays a strategy by these choices.
-pub fn controller(
+pub fn controller_of(
     alloc: Global,
     arena: &mut Arena,
     strategy: &Strategy,

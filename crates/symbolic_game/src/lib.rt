@@ -3,12 +3,14 @@
 #![tactic(auto)]
 
 mod choices;
+mod controllers;
 mod fixpoints;
 mod solutions;
 mod steps;
 mod strategies;
 
 pub use choices::{Choice, choices};
+pub use controllers::{Controller, Memory, controller_of};
 pub use fixpoints::solve;
 pub use solutions::{Layer, Loss, Solution};
-pub use strategies::{Strategy, Turn, strategy};
+pub use strategies::{Strategy, Turn, strategy_of};

@@ -27,7 +27,7 @@ pub struct Strategy {
 }
 
 /// The strategy of the winner of a game.
-pub fn strategy<D: Deadline>(
+pub fn strategy_of<D: Deadline>(
     alloc: Global,
     arena: &mut Arena,
     solution: &Solution,

@@ -10,13 +10,13 @@ use rand_core::utils::NextWord;
 use rand_pcg::Pcg32;
 use std::alloc::{AllocError, Global};
 use symbolic_arena::{Arena, Stop, Strictness};
-use symbolic_game::{Choice, Strategy, choices, solve, strategy};
+use symbolic_game::{Choice, Strategy, choices, solve, strategy_of};
 use time_limits::NoDeadline;
 
 /// How many games are drawn, and words for each.
-const GAMES: u32 = 120;
+const GAMES: u32 = 40;
 
-const WORDS: u32 = 8;
+const WORDS: u32 = 4;
 
 /// A play comes round within so many steps.
 const MOST_STEPS: usize = 300;
@@ -101,7 +101,7 @@ impl Tally {
         if !arena.is_sound_for(solution.winner) {
             return Ok(None);
         }
-        let plan = strategy(alloc, &mut arena, &solution, stake.kind, &NoDeadline)?;
+        let plan = strategy_of(alloc, &mut arena, &solution, stake.kind, &NoDeadline)?;
         let choices = choices(alloc, &mut arena, &plan)?;
         for _ in 0..WORDS {
             let word = drawn_word(alloc, random)?;

@@ -11,7 +11,6 @@ mod plays;
 mod runs;
 
 use contests::push_contests;
-use monitors::push_monitors;
 use plays::push_row;
 use std::io::{BufRead, Write};
 
@@ -45,7 +44,6 @@ fn main(rt: HostRuntime) -> anyhow::Result<()> {
         }
         line.clear();
     }
-    push_monitors(alloc, &mut out)?;
     push_contests(alloc, &mut out)?;
     rt.stdout().write_all(&out)?;
     Ok(())

@@ -10,9 +10,9 @@ use std::alloc::{AllocError, Global};
 use symbolic_arena::{Arena, Signals, Stop, Strictness};
 
 /// How many conjuncts are drawn of each sort, and words for each.
-const FORMS: u32 = 30;
+const FORMS: u32 = 20;
 
-const WORDS: u32 = 12;
+const WORDS: u32 = 10;
 
 /// What is counted over the conjuncts of one sort.
 #[derive(Clone, Copy)]
