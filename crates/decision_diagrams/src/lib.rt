@@ -12,6 +12,8 @@ mod operation_cache;
 mod quantifiers;
 mod restricting;
 mod substitutions;
+#[cfg(test)]
+mod tests;
 mod walks;
 
 pub use diagrams::Diagrams;
