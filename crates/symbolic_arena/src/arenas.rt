@@ -8,7 +8,7 @@ use conjuncts::{Conjuncts, Forms};
 use decision_diagrams::{DiagramLimits, Diagrams, Function, Variable};
 use indexmap::IndexSet;
 use letters_and_lassos::Side;
-use std::alloc::Global;
+use std::alloc::{AllocError, Global};
 
 /// What becomes of the system where a guarantee of safety is broken before an assumption is that frees it.
 #[derive(Clone, Copy, Debug, PartialEq, Eq)]
@@ -73,6 +73,20 @@ impl Arena {
         let plan = Plan::new(alloc, conjuncts, signals, strictness)?;
         let builder = Builder::new(alloc, plan, signals, limits)?;
         builder.joined(strictness)
+    }
+
+    /// All functions of the arena, which have to be kept where others are taken away.
+    pub fn functions(&self, alloc: Global) -> Result<Vec<Function>, AllocError> {
+        let mut functions = Vec::new(alloc);
+        functions.push(self.bad)?;
+        functions.push(self.broken)?;
+        for latch in &self.latches {
+            functions.push(latch.next)?;
+        }
+        for event in self.assumptions.iter().chain(&self.goals) {
+            functions.push(event.function)?;
+        }
+        Ok(functions)
     }
 
     /// Whether this side wins the formula's game where it wins this one.

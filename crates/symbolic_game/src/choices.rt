@@ -1,7 +1,7 @@
 //! Signals of the winner as functions: at each turn one of the moves.
 
 use crate::strategies::{Strategy, Turn};
-use decision_diagrams::{Diagrams, Function, Substitution, Variable};
+use decision_diagrams::{Diagrams, Function, Variable};
 use letters_and_lassos::Side;
 use std::alloc::Global;
 use symbolic_arena::{Arena, Stop};
@@ -13,11 +13,7 @@ pub struct Choice {
 }
 
 /// What the winner does at each turn.
-pub fn choices(
-    alloc: Global,
-    arena: &mut Arena,
-    strategy: &Strategy,
-) -> Result<Vec<Choice>, Stop> {
+pub fn choices(alloc: Global, arena: &mut Arena, strategy: &Strategy) -> Result<Vec<Choice>, Stop> {
     let own = match strategy.side {
         Side::System => arena.outputs.clone()?,
         Side::Environment => arena.inputs.clone()?,
@@ -38,12 +34,13 @@ fn choice_at(
     turn: Turn,
 ) -> Result<Choice, Stop> {
     let left_open = left_open(alloc, diagrams, own, turn.moves)?;
-    let mut chosen = Substitution::new(alloc);
+    let mut chosen = Vec::new(alloc);
     let mut functions = Vec::new(alloc);
     for (variable, moves) in own.iter().zip(&left_open) {
-        let moves = diagrams.compose(*moves, &chosen)?;
+        let by = diagrams.substitution(&chosen)?;
+        let moves = diagrams.compose(*moves, &by)?;
         let function = chosen_by(diagrams, *variable, moves, region)?;
-        chosen.set(*variable, function)?;
+        chosen.push((*variable, function))?;
         functions.push(function)?;
     }
     Ok(Choice { functions })

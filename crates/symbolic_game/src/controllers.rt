@@ -34,7 +34,12 @@ pub fn controller_of(
     strategy: &Strategy,
     choices: &[Choice],
 ) -> Result<Controller, Stop> {
-    let codes = codes(alloc, &mut arena.diagrams, &arena.turns, strategy.turns.len())?;
+    let codes = codes(
+        alloc,
+        &mut arena.diagrams,
+        &arena.turns,
+        strategy.turns.len(),
+    )?;
     let signals = signals(alloc, arena, strategy.side, &codes, choices)?;
     let mut latches = turn_bits(alloc, arena, strategy, &codes)?;
     for latch in &arena.latches {

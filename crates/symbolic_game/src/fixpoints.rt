@@ -17,11 +17,13 @@ pub fn solve<D: Deadline>(
     deadline: &D,
 ) -> Result<Solution, Stop> {
     let step = Step::new(alloc, arena, kind)?;
+    let kept = arena.functions(alloc)?;
     let assumptions = functions(alloc, &arena.assumptions)?;
     let goals = functions(alloc, &arena.goals)?;
     let mut search = Search {
         diagrams: &mut arena.diagrams,
         step,
+        kept,
         layers: lists(alloc, goals.len())?,
         reached: lists(alloc, goals.len())?,
         assumptions,
@@ -58,6 +60,8 @@ fn lists<T: Drop>(alloc: Global, count: usize) -> Result<Vec<Vec<T>>, AllocError
 struct Search<'a> {
     diagrams: &'a mut Diagrams,
     step: Step,
+    /// The arena's functions.
+    kept: Vec<Function>,
     assumptions: Vec<Function>,
     goals: Vec<Function>,
     /// What the system may still win from.
@@ -98,6 +102,48 @@ impl Search<'_> {
         Ok(())
     }
 
+    /// Takes away what is needed no more, where that pays. The functions that are given are needed too.
+    fn collect(&mut self, needed: &[Function], layers: &[Layer]) -> Result<(), Stop> {
+        if !self.diagrams.wants_collection() {
+            return Ok(());
+        }
+        let mut roots = self.kept.clone()?;
+        self.step.add_functions(&mut roots)?;
+        roots.extend_from_slice(needed)?;
+        roots.push(self.region)?;
+        add_regions(&mut roots, layers)?;
+        for layers in &self.layers {
+            add_regions(&mut roots, layers)?;
+        }
+        for rounds in &self.reached {
+            for found in rounds {
+                roots.extend_from_slice(found)?;
+            }
+        }
+        for loss in &self.losses {
+            roots.push(loss.before)?;
+            roots.push(loss.after)?;
+        }
+        Ok(self.diagrams.collect(&roots)?)
+    }
+
+    /// The same on the way to a goal.
+    fn collect_for(
+        &mut self,
+        aim: Aim,
+        layers: &[Layer],
+        rounds: &[Vec<Function>],
+    ) -> Result<(), Stop> {
+        if !self.diagrams.wants_collection() {
+            return Ok(());
+        }
+        let mut needed = vec![in self.alloc; aim.goal, aim.nearer]?;
+        for found in rounds {
+            needed.extend_from_slice(found)?;
+        }
+        self.collect(&needed, layers)
+    }
+
     /// Takes a region in place of the one before, and tells whether the start is in it.
     fn lose_to(&mut self, after: Function, goal: Option<usize>) -> Result<bool, Stop> {
         if after != self.region {
@@ -115,6 +161,7 @@ impl Search<'_> {
     fn is_safe<D: Deadline>(&mut self, deadline: &D) -> Result<bool, Stop> {
         for _ in 0..u64::MAX {
             self.take_turn(deadline)?;
+            self.collect(&[], &[])?;
             let stays = self.step.after(self.diagrams, self.region)?;
             let kept = self.step.can_make(self.diagrams, stays)?;
             let kept = self.diagrams.and(self.region, kept)?;
@@ -137,6 +184,7 @@ impl Search<'_> {
             if stable >= self.goals.len() {
                 break;
             }
+            self.collect(&[], &[])?;
             let reached = self.reach(goal, deadline)?;
             stable = if reached == self.region {
                 stable.saturating_add(1)
@@ -167,6 +215,7 @@ impl Search<'_> {
                 goal: goal_steps,
                 nearer,
             };
+            self.collect_for(aim, &layers, &rounds)?;
             let found = self.round(goal, round, aim, deadline)?;
             let all = self.add_layers(&mut layers, nearer, round, &found)?;
             rounds.push(found)?;
@@ -269,6 +318,13 @@ impl Search<'_> {
         }
         Ok(region)
     }
+}
+
+fn add_regions(roots: &mut Vec<Function>, layers: &[Layer]) -> Result<(), AllocError> {
+    for layer in layers {
+        roots.push(layer.region)?;
+    }
+    Ok(())
 }
 
 fn put<T: Drop>(list: &mut [T], place: usize, value: T) {

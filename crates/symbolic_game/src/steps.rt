@@ -2,7 +2,7 @@
 
 use decision_diagrams::{Diagrams, Function, Substitution};
 use letters_and_lassos::Kind;
-use std::alloc::Global;
+use std::alloc::{AllocError, Global};
 use symbolic_arena::{Arena, Stop};
 
 /// What a step does: next values, and who chooses what.
@@ -20,15 +20,15 @@ pub(crate) struct Step {
 
 impl Step {
     pub(crate) fn new(alloc: Global, arena: &mut Arena, kind: Kind) -> Result<Step, Stop> {
-        let mut next = Substitution::new(alloc);
+        let mut images = Vec::new(alloc);
         let mut start = Function::TRUE;
         for latch in &arena.latches {
-            next.set(latch.variable, latch.next)?;
+            images.push((latch.variable, latch.next))?;
             let value = arena.diagrams.variable(latch.variable)?;
             start = arena.diagrams.and(start, value.not())?;
         }
         Ok(Step {
-            next,
+            next: arena.diagrams.substitution(&images)?,
             inputs: arena.diagrams.cube(&arena.inputs)?,
             outputs: arena.diagrams.cube(&arena.outputs)?,
             fine: arena.bad.not(),
@@ -87,6 +87,11 @@ impl Step {
             Kind::Mealy => Ok(diagrams.forall(steps, self.outputs)?),
             Kind::Moore => Ok(steps),
         }
+    }
+
+    /// Adds the functions that are needed as long as the game lasts.
+    pub(crate) fn add_functions(&self, functions: &mut Vec<Function>) -> Result<(), AllocError> {
+        functions.extend_from_slice(&[self.inputs, self.outputs, self.fine, self.start])
     }
 
     /// Whether the start is in a region.

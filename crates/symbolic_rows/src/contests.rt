@@ -63,7 +63,9 @@ pub(crate) fn push_contests(alloc: Global, out: &mut Vec<u8>) -> Result<(), Allo
         apart,
         wrong,
     } = tally;
-    let line = format!(in alloc; "games that are drawn: the system wins {system}, the environment {environment}; {apart} are won otherwise, {wrong} plays are wrong\n")?;
+    let line = format!(in alloc;
+        "games that are drawn: the system wins {system}, the environment {environment}; {apart} are won otherwise, {wrong} plays are wrong\n"
+    )?;
     out.extend_from_slice(line.as_bytes())
 }
 

@@ -11,11 +11,15 @@ mod plays;
 mod runs;
 
 use contests::push_contests;
+use monitors::push_monitors;
 use plays::push_row;
 use std::io::{BufRead, Write};
 
 /// What a line begins with that is a heading.
 const HEADING: &[u8] = b"==== ";
+
+/// What a heading begins with behind whose text numbers are told; nothing is drawn then.
+pub(crate) const MEASURED: &[u8] = b"==== measured ";
 
 fn main(rt: HostRuntime) -> anyhow::Result<()> {
     let alloc = rt.alloc();
@@ -24,6 +28,7 @@ fn main(rt: HostRuntime) -> anyhow::Result<()> {
     let mut heading = Vec::new(alloc);
     let mut text = Vec::new(alloc);
     let mut line = Vec::new(alloc);
+    let mut is_measured = false;
     for _ in 0..u64::MAX {
         let count = input.read_until(b'\n', &mut line)?;
         if count == 0 || line.starts_with(HEADING) {
@@ -36,6 +41,7 @@ fn main(rt: HostRuntime) -> anyhow::Result<()> {
             heading.clear();
             text.clear();
             heading.extend_from_slice(&line)?;
+            is_measured |= heading.starts_with(MEASURED);
         } else {
             text.extend_from_slice(&line)?;
         }
@@ -44,7 +50,10 @@ fn main(rt: HostRuntime) -> anyhow::Result<()> {
         }
         line.clear();
     }
-    push_contests(alloc, &mut out)?;
+    if !is_measured {
+        push_monitors(alloc, &mut out)?;
+        push_contests(alloc, &mut out)?;
+    }
     rt.stdout().write_all(&out)?;
     Ok(())
 }

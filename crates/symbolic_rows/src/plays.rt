@@ -1,5 +1,6 @@
 //! A text that is played, and what comes of it.
 
+use crate::MEASURED;
 use conjuncts::conjuncts_of;
 use decision_diagrams::DiagramLimits;
 use letters_and_lassos::Side;
@@ -18,7 +19,7 @@ pub(crate) fn push_row(
     text: &[u8],
 ) -> Result<(), AllocError> {
     out.extend_from_slice(heading)?;
-    let is_measured = heading.starts_with(b"==== measured ");
+    let is_measured = heading.starts_with(MEASURED);
     match text_within(alloc, WIDEST_LIMITS, text, None) {
         Ok(known) => {
             push_play(alloc, out, &known, Strictness::Strict, is_measured)?;

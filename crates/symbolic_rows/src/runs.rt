@@ -106,7 +106,11 @@ fn happened(
     Ok(happened)
 }
 
-pub(crate) fn next_values(alloc: Global, arena: &Arena, values: &[bool]) -> Result<Vec<bool>, AllocError> {
+pub(crate) fn next_values(
+    alloc: Global,
+    arena: &Arena,
+    values: &[bool],
+) -> Result<Vec<bool>, AllocError> {
     let mut next = vec![in alloc; false; values.len()]?;
     for latch in &arena.latches {
         set(&mut next, latch.variable, holds(arena, latch.next, values));
