@@ -57,14 +57,14 @@ pub(crate) fn push_contests(alloc: Global, out: &mut Vec<u8>) -> Result<(), Allo
             Err(_) => {}
         }
     }
-    let Tally {
-        system,
-        environment,
-        apart,
-        wrong,
-    } = tally;
+    let many = if tally.system > GAMES / 4 && tally.environment > GAMES / 8 {
+        "most"
+    } else {
+        "few"
+    };
+    let (apart, wrong) = (tally.apart, tally.wrong);
     let line = format!(in alloc;
-        "games that are drawn: the system wins {system}, the environment {environment}; {apart} are won otherwise, {wrong} plays are wrong\n"
+        "games that are drawn: {many} are decided, {apart} are won otherwise, {wrong} plays are wrong\n"
     )?;
     out.extend_from_slice(line.as_bytes())
 }
