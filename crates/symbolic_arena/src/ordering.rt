@@ -103,7 +103,7 @@ fn weights(alloc: Global, plan: &Plan) -> Result<Vec<u64>, AllocError> {
                 count = count.saturating_add(1);
             }
         }
-        weights.push(WEIGHT / count)?;
+        weights.push(WEIGHT / count.max(1))?;
     }
     Ok(weights)
 }
