@@ -42,6 +42,21 @@ impl Diagrams {
         })
     }
 
+    /// The topmost variable on which one of these functions depends.
+    pub fn topmost(&self, functions: &[Function]) -> Option<Variable> {
+        let mut level = LAST_LEVEL;
+        for function in functions {
+            level = level.min(self.table.level(*function));
+        }
+        self.order.get(level as usize).copied()
+    }
+
+    /// A function where a variable is set, and where it isn't. It depends on none above that variable.
+    pub fn halves(&self, f: Function, variable: Variable) -> (Function, Function) {
+        let level = self.level_of(variable).unwrap_or(LAST_LEVEL);
+        self.table.halves(f, level)
+    }
+
     /// The value of a function at values by variables; a variable without one is unset.
     pub fn evaluate(&self, f: Function, values: &[bool]) -> bool {
         let mut function = f;
