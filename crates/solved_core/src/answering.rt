@@ -24,7 +24,12 @@ use time_limits::Stopwatch;
 ///
 /// For `count` of them there are at most `2 * count + 1` questions of `solve`, each with the limits that are given, and with so many seconds of its own
 /// where they are limited.
-pub fn core_solve_answer<R: Threads + Wait + Sync, G: Gate + Sync, S: Stopwatch + Sync, L: Listener>(
+pub fn core_solve_answer<
+    R: Threads + Wait + Sync,
+    G: Gate + Sync,
+    S: Stopwatch + Sync,
+    L: Listener,
+>(
     rt: &R,
     alloc: Global,
     text: &[u8],
@@ -103,5 +108,11 @@ fn bytes_of<R: Threads + Wait + Sync, G: Gate + Sync, S: Stopwatch + Sync>(
 ) -> Result<Vec<u8>, AllocError> {
     let core = shrunk(rt, alloc, about, whole, gate, stopwatch)?;
     let others = others(rt, alloc, about, &core.keep, gate, stopwatch)?;
-    core_text(alloc, &core.keep, &about.apart.parts, &core.answered, &others)
+    core_text(
+        alloc,
+        &core.keep,
+        &about.apart.parts,
+        &core.answered,
+        &others,
+    )
 }

@@ -85,10 +85,31 @@ fn parts_of(
     let guarantee = lines_of(alloc, text, &tree.sections.guarantee)?;
     let formulas = &spec.formulas;
     let sections = &spec.sections;
-    let mut parts = section_parts(alloc, formulas, PartSection::Preset, &sections.preset, &preset, &mut room)?;
-    let more = section_parts(alloc, formulas, PartSection::Assert, &sections.assert, &assert, &mut room)?;
+    let mut parts = section_parts(
+        alloc,
+        formulas,
+        PartSection::Preset,
+        &sections.preset,
+        &preset,
+        &mut room,
+    )?;
+    let more = section_parts(
+        alloc,
+        formulas,
+        PartSection::Assert,
+        &sections.assert,
+        &assert,
+        &mut room,
+    )?;
     parts.extend_from_slice(&more)?;
-    let more = section_parts(alloc, formulas, PartSection::Guarantee, &sections.guarantee, &guarantee, &mut room)?;
+    let more = section_parts(
+        alloc,
+        formulas,
+        PartSection::Guarantee,
+        &sections.guarantee,
+        &guarantee,
+        &mut room,
+    )?;
     parts.extend_from_slice(&more)?;
     Ok(parts)
 }

@@ -7,11 +7,7 @@ use crate::parts::Part;
 use std::alloc::{AllocError, Global};
 
 /// The parts that are kept.
-pub(crate) fn kept(
-    alloc: Global,
-    keep: &[bool],
-    parts: &[Part],
-) -> Result<Vec<Part>, AllocError>
+pub(crate) fn kept(alloc: Global, keep: &[bool], parts: &[Part]) -> Result<Vec<Part>, AllocError>
     requires { length keep.now ≡ length parts.now }
     ensures { IfOk result (λ list. list.items ≡ kept keep.now parts.now) }
 {

@@ -96,11 +96,7 @@ fn push_others(
     Ok(())
 }
 
-fn push_other(
-    bytes: &mut Vec<u8>,
-    number: u64,
-    other: &Option<Answered>,
-) -> Result<(), AllocError>
+fn push_other(bytes: &mut Vec<u8>, number: u64, other: &Option<Answered>) -> Result<(), AllocError>
     ensures { OnOk result (bytes.new.items ≡ bytes.old.items ++ other_part number (other_seen other.now)) }
 {
     match other {

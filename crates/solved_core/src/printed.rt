@@ -52,7 +52,9 @@ pub(crate) fn printed(
 
 /// Puts the text up to its sections.
 fn put_head(apart: &ApartText, text: &mut Vec<u8>) -> Result<(), AllocError> {
-    text.extend_from_slice(b"INFO {\n  TITLE: \"some formulas of a text\"\n  DESCRIPTION: \"written by boundsyn core\"\n  SEMANTICS: ")?;
+    text.extend_from_slice(
+        b"INFO {\n  TITLE: \"some formulas of a text\"\n  DESCRIPTION: \"written by boundsyn core\"\n  SEMANTICS: ",
+    )?;
     text.extend_from_slice(apart.semantics.word().as_bytes())?;
     text.extend_from_slice(strict_word(apart.spec.strict))?;
     text.extend_from_slice(b"\n  TARGET: ")?;

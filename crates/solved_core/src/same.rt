@@ -37,7 +37,10 @@ pub(crate) fn is_same(
         sections,
         ..
     } = other;
-    if strict != flat.strict || !are_names(&inputs, &flat.inputs) || !are_names(&outputs, &flat.outputs) {
+    if strict != flat.strict
+        || !are_names(&inputs, &flat.inputs)
+        || !are_names(&outputs, &flat.outputs)
+    {
         return Ok(false);
     }
     let copies = match copies_in(alloc, &flat.formulas, &mut formulas) {
@@ -62,8 +65,7 @@ fn has_sections(
     copies: &[FormulaId],
     formulas: &Formulas,
     sections: &Sections<Vec<FormulaId>>,
-) -> Result<bool, AllocError>
-{
+) -> Result<bool, AllocError> {
     let own = &flat.sections;
     let are_own = are_copies(copies, &own.initially, &sections.initially)
         && are_copies(copies, &own.require, &sections.require)
@@ -74,9 +76,11 @@ fn has_sections(
     let preset = parts_in(alloc, PartSection::Preset, kept)?;
     let assert = parts_in(alloc, PartSection::Assert, kept)?;
     let guarantee = parts_in(alloc, PartSection::Guarantee, kept)?;
-    Ok(are_parts(formulas, copies, &preset, &sections.preset)
-        && are_parts(formulas, copies, &assert, &sections.assert)
-        && are_parts(formulas, copies, &guarantee, &sections.guarantee))
+    Ok(
+        are_parts(formulas, copies, &preset, &sections.preset)
+            && are_parts(formulas, copies, &assert, &sections.assert)
+            && are_parts(formulas, copies, &guarantee, &sections.guarantee),
+    )
 }
 
 /// Whether these are the copies of formulas.
