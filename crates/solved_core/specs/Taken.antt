@@ -75,6 +75,10 @@ IfAnswered text given limits parts (Defeated a) = IsDefeated text given limits p
 IfAnswered text given limits parts (Met a) = IsMet text given limits parts (answered_seen a)
 IfAnswered text given limits parts Open = Unit {0}
 
+-- all parts of a text can't be met together
+abbrev pub IsDefeatedWhole : List ℕ → Questioned → questions.Answered → Type 0
+IsDefeatedWhole text about whole = IsDefeated text about.given (limits_of about.refuting) about.apart.parts.items (answered_seen whole)
+
 -- the parts that are kept can't be met together
 abbrev pub IsShrunk : List ℕ → Questioned → shrinking.Core → Type 0
 IsShrunk text about core =

@@ -1,11 +1,13 @@
 //! The answer to a text.
-ghost use Rattle.std.specs.Prelude.{◌≡◌, IfOk};
+ghost use Rattle.std.specs.Prelude.{ℕ, List, IfOk};
 ghost use Rattle.program_replies.specs.Statuses.{status_number};
+ghost use Rattle.solve_answer.specs.Answer.{SolveAnswers};
 ghost use Rattle.solve_answer.specs.Parts.{limits_of};
-ghost use Rattle.solved_core.specs.Core.{CoreSolveAnswers};
-ghost use Rattle.solved_core.specs.Taken.{CanBeTold, IsApart};
+ghost use Rattle.solved_core.specs.Core.{CoreSolveAnswers, IsCore};
+ghost use Rattle.solved_core.specs.Taken.{CanBeTold, IsApart, IsDefeatedWhole};
 
 use crate::apart::take_apart;
+use crate::laws::all_parts_are_the_text;
 use crate::lines::core_text;
 use crate::questions::{Answered, Questioned};
 use crate::shrinking::{others, shrunk};
@@ -68,7 +70,11 @@ fn core_of<R: Threads + Wait + Sync, G: Gate + Sync, S: Stopwatch + Sync>(
     whole: ToldReply,
     gate: &G,
     stopwatch: &S,
-) -> Result<ToldReply, AllocError> {
+) -> Result<ToldReply, AllocError>
+    requires { SolveAnswers text.now given (limits_of refuting) whole.reply.bytes.items 20 }
+    ensures { IfOk result (λ r. CoreSolveAnswers text.now given (limits_of refuting) r.reply.bytes.items (status_number r.reply.status)) }
+{
+    all_parts_are_the_text();
     let apart = match take_apart(alloc, text, given) {
         Ok(apart) => apart,
         Err(fault) => {
@@ -105,7 +111,11 @@ fn bytes_of<R: Threads + Wait + Sync, G: Gate + Sync, S: Stopwatch + Sync>(
     whole: Answered,
     gate: &G,
     stopwatch: &S,
-) -> Result<Vec<u8>, AllocError> {
+) -> Result<Vec<u8>, AllocError>
+    requires { CanBeTold about.now.apart }
+    ensures { (text : List ℕ) → IsApart text about.now.given about.now.apart → IsDefeatedWhole text about.now whole
+        → IfOk result (λ bytes. IsCore text about.now.given (limits_of about.now.refuting) bytes.items) }
+{
     let core = shrunk(rt, alloc, about, whole, gate, stopwatch)?;
     let others = others(rt, alloc, about, &core.keep, gate, stopwatch)?;
     core_text(

@@ -1,11 +1,13 @@
 //! A question of `solve` about some parts of a text.
-ghost use Rattle.std.specs.Prelude.{◌≡◌, ℕ, List, Option as Maybe, IfOk, IfSome, length};
+ghost use Rattle.std.specs.Prelude.{◌≡◌, ℕ, List, Option as Maybe, IfOk, length};
 ghost use Rattle.letters_and_lassos.specs.declared.kinds.Kind.{Kind as Given};
 ghost use Rattle.unrealizable_core.specs.Reduced.{kept};
+ghost use Rattle.program_replies.specs.Statuses.{status_number};
+ghost use Rattle.solve_answer.specs.Answer.{LogLimits, SolveAnswers};
 ghost use Rattle.solve_answer.specs.Parts.{limits_of};
-ghost use Rattle.solved_core.specs.Core.{IsDefeated, IsMet};
-ghost use Rattle.solved_core.specs.Parts.{PartsStand};
-ghost use Rattle.solved_core.specs.Taken.{CanBeTold, IfAnswered, IsApart, answered_seen};
+ghost use Rattle.solved_core.specs.declared.parts.Part.{Part as SomePart};
+ghost use Rattle.solved_core.specs.Says.{SaysParts};
+ghost use Rattle.solved_core.specs.Taken.{CanBeTold, IfAnswered, IsApart};
 
 use crate::apart::ApartText;
 use crate::keeping::kept;
@@ -79,7 +81,10 @@ pub(crate) fn ask<R: Threads + Wait + Sync, G: Gate + Sync, S: Stopwatch + Sync>
 }
 
 /// What the reply to a text tells.
-fn outcome_of(text: Vec<u8>, reply: Reply) -> Outcome {
+fn outcome_of(text: Vec<u8>, reply: Reply) -> Outcome
+    ensures { (whole : List ℕ) (given : Maybe Given) (limits : LogLimits) (parts : List SomePart) → SaysParts whole given parts text.items
+        → SolveAnswers text.items given limits reply.bytes.items (status_number reply.status) → IfAnswered whole given limits parts result }
+{
     let Reply { bytes, status } = reply;
     let answered = Answered {
         text,

@@ -1,11 +1,12 @@
 //! Whether a text that was read back says parts of another one.
 ghost use Rattle.std.specs.Prelude.{◌≡◌, ◌<◌, All, IfOk, length, map};
 ghost use Rattle.std.specs.Bool.{OnTrue};
-ghost use Rattle.ltl_formula.specs.Nodes.{Grows, IsNodeIn, IsNodeList, tree_at};
+ghost use Rattle.ltl_formula.specs.Nodes.{IsNodeIn, tree_at};
 ghost use Rattle.kind_conversion.specs.ShiftedList.{form_at};
 ghost use Rattle.tlsf_expand.specs.FlatText.{spec_seen};
-ghost use Rattle.tlsf_expand.specs.Standing.{SectionsStand, formulas_at};
-ghost use Rattle.solved_core.specs.Parts.{PartsStand, always_times, parts_in as parts_of_section, part_tree};
+ghost use Rattle.tlsf_expand.specs.Standing.{SectionsStand, formulas_at, section_trees};
+ghost use Rattle.tlsf_syntax.specs.Text.{section_lists};
+ghost use Rattle.solved_core.specs.Parts.{PartsStand, always_times, with_parts};
 ghost use Rattle.solved_core.specs.Taken.{AreCopies, IsSame};
 
 use crate::copies::{copies_in, copy_at};
@@ -65,7 +66,14 @@ fn has_sections(
     copies: &[FormulaId],
     formulas: &Formulas,
     sections: &Sections<Vec<FormulaId>>,
-) -> Result<bool, AllocError> {
+) -> Result<bool, AllocError>
+    requires copies { AreCopies flat.now.formulas formulas.now copies.now }
+    requires all { length copies.now ≡ length flat.now.formulas }
+    requires flat_stands { SectionsStand (spec_seen flat.now).formulas (spec_seen flat.now).expanded.sections }
+    requires kept_stand { PartsStand flat.now.formulas kept.now }
+    requires stand { SectionsStand formulas.now (section_lists sections.now) }
+    ensures { IfOk result (λ same. OnTrue same (section_trees formulas.now (section_lists sections.now) ≡ with_parts (spec_seen flat.now) kept.now)) }
+{
     let own = &flat.sections;
     let are_own = are_copies(copies, &own.initially, &sections.initially)
         && are_copies(copies, &own.require, &sections.require)

@@ -1,6 +1,6 @@
 //! Parts left out one at a time, in their order.
 ghost use Rattle.std.specs.Prelude.{◌≡◌, ◌<◌, ℕ, List, IfOk, length};
-ghost use Rattle.solved_core.specs.Taken.{AreOthers, CanBeTold, IsApart, IsOther, IsShrunk};
+ghost use Rattle.solved_core.specs.Taken.{AreOthers, CanBeTold, IsApart, IsDefeatedWhole, IsOther, IsShrunk};
 
 use crate::keeping::{all_kept, without};
 use crate::questions::{Answered, Outcome, Questioned, ask};
@@ -30,7 +30,7 @@ pub(crate) fn shrunk<R: Threads + Wait + Sync, G: Gate + Sync, S: Stopwatch + Sy
 ) -> Result<Core, AllocError>
     requires can { CanBeTold about.now.apart }
     ensures each { IfOk result (λ core. length core.keep.items ≡ length about.now.apart.parts.items) }
-    ensures shrunk { (text : List ℕ) → IsApart text about.now.given about.now.apart → whole.text.items ≡ text
+    ensures shrunk { (text : List ℕ) → IsApart text about.now.given about.now.apart → IsDefeatedWhole text about.now whole
         → IfOk result (λ core. IsShrunk text about.now core) }
 {
     let count = about.apart.parts.len();
