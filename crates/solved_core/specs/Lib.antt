@@ -1,0 +1,5 @@
+pub mod Parts
+pub mod Says
+pub mod Core
+pub mod Laws
+pub mod Taken
