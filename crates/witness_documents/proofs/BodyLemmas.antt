@@ -13,7 +13,6 @@ use Rattle.document_text.specs.Reading.{all_named}
 use Rattle.document_text.proofs.CommentLine.{comment_fits}
 use Rattle.document_text.proofs.LineRead.{behind_is}
 use Rattle.solved_text.specs.Logs.{LogsRead, ReadsLogs}
-use Rattle.solved_text.specs.Parts.{SizeLog}
 use Rattle.solved_text.proofs.LogLemmas.{logs_fit}
 use Rattle.witness_text.specs.declared.lines.Following.TheVariants.{Nothing}
 use Rattle.witness_text.specs.Reading.{WitnessLines}
@@ -21,7 +20,7 @@ use Rattle.witness_text.specs.Reading as witness
 use Rattle.witness_documents.specs.Lines.{version_text}
 use Rattle.witness_documents.specs.Header.{HeaderRead, header_of}
 use Rattle.witness_documents.specs.Places.{AreLines, AreNumbered}
-use Rattle.witness_documents.specs.Reading.{BodyRead, IsWitnessed, Reads, ReadsBody, ReadsRest, RestRead, StandsBehind, WitnessedLines, lines_with, named, no_rest, of_header, of_rest, of_sizes, of_witness, unnamed, unnamed_body, verdict_line, with_witness, without_witness}
+use Rattle.witness_documents.specs.Reading.{BodyRead, IsWitnessed, Reads, ReadsBody, ReadsRest, RestRead, StandsBehind, WitnessedLines, lines_with, named, no_rest, of_header, of_rest, of_sizes, of_witness, unnamed, unnamed_body, with_witness, without_witness}
 use Rattle.witness_documents.proofs.HeaderWhole.{good_header}
 
 -- ---- behind the logs of sizes

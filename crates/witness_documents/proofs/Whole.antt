@@ -1,10 +1,8 @@
 -- Documents as a whole: what bytes state, and what is read of them.
-use Rattle.std.proofs.Common.{◌≡◌, ℕ, ◌+◌, ◌-◌, ◌^◌, ◌<◌, ◌≤◌, Bool, true, false, Option, Some, None, List, [], ◌∷◌, ◌++◌, length, drop, refl, sym, ap, subst, ◌∙◌, arith, append_assoc, true≢false}
-use Rattle.std.specs.Prelude.{All, IfSome, flat_map, unwrap_or}
+use Rattle.std.proofs.Common.{◌≡◌, ℕ, ◌+◌, ◌-◌, ◌<◌, ◌≤◌, Bool, true, false, Option, Some, None, List, [], ◌∷◌, ◌++◌, length, drop, refl, sym, ap, subst, ◌∙◌, arith, append_assoc, true≢false}
+use Rattle.std.specs.Prelude.{All, flat_map, unwrap_or}
 use Rattle.std.proofs.lemmas.List.{append-nil}
 use Rattle.std_lemmas.proofs.Options.{some_none, some_same}
-use Rattle.letters_and_lassos.specs.declared.kinds.Kind.{Kind}
-use Rattle.aiger_text.specs.Circuit.{Circuit}
 use Rattle.aiger_text.specs.CircuitFile.{File}
 use Rattle.aiger_text.specs.CircuitFile as circuit
 use Rattle.aiger_text.proofs.FileFacts.{files_state_one_thing}
@@ -19,7 +17,7 @@ use Rattle.solved_text.specs.Parts.{SizeLog}
 use Rattle.solved_text.specs.Logs.{LogsRead, ReadsLogs}
 use Rattle.solved_text.specs.States.{AreInOrder, IsSizeLog, logs_line}
 use Rattle.solved_text.proofs.LogLemmas.{logs_same}
-use Rattle.solved_text.proofs.LogsWhole.{GoodLogs, good_logs, line_after, logs_read}
+use Rattle.solved_text.proofs.LogsWhole.{good_logs, line_after, logs_read}
 use Rattle.witness_text.specs.declared.lines.Following.TheVariants.{Nothing}
 use Rattle.witness_text.specs.Laws.{WitnessesAreDetermined}
 use Rattle.witness_text.specs.Lines.{witness_text}
@@ -27,7 +25,6 @@ use Rattle.witness_text.specs.Reading.{WitnessLines, WitnessProof, witness_of}
 use Rattle.witness_text.specs.Reading as witness
 use Rattle.witness_text.specs.States as witness_states
 use Rattle.witness_documents.specs.declared.documents.Verdict.{Verdict}
-use Rattle.witness_documents.specs.declared.header.Header.{Header}
 use Rattle.witness_documents.specs.Parts.{Document}
 use Rattle.witness_documents.specs.Lines.{body_text, version_text}
 use Rattle.witness_documents.specs.Header.{HeaderRead, header_of, may_stand, sizes_end}

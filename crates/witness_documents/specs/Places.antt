@@ -1,5 +1,5 @@
 -- The numbers of a document's lines, and how what was read fits (this project's own).
-use Rattle.std.specs.Prelude.{ℕ, ◌+◌, ◌^◌, ◌<◌, Bool, IfSome, if◌then◌else◌}
+use Rattle.std.specs.Prelude.{ℕ, ◌+◌, ◌^◌, ◌<◌, IfSome, if◌then◌else◌}
 use Rattle.witness_text.specs.Places as witness
 use Rattle.witness_text.specs.Reading.{WitnessLines}
 use Rattle.witness_text.specs.States as witness_states

@@ -1,5 +1,4 @@
 -- What the reader has of a document's lines (this project's own).
-use Rattle.std.specs.Prelude.{List, Option, option_map}
 use Rattle.witness_documents.specs.declared.header.HeaderRead.{HeaderRead}
 use Rattle.witness_documents.specs.declared.reading.BodyRead.{BodyRead}
 use Rattle.witness_documents.specs.declared.reading.RestRead.{RestRead}

@@ -1,5 +1,5 @@
 -- What the bytes of a document of version 7 state (this project's own).
-use Rattle.std.specs.Prelude.{◌≡◌, ℕ, ◌+◌, ◌<◌, Option, Some, List, length, drop, All, IsTrue}
+use Rattle.std.specs.Prelude.{◌≡◌, ℕ, ◌+◌, ◌<◌, Some, List, length, drop, All, IsTrue}
 use Rattle.aiger_text.specs.CircuitFile.{File}
 use Rattle.aiger_text.specs.CircuitFile as circuit
 use Rattle.document_text.specs.Reading.{all_named}
