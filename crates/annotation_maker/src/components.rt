@@ -7,11 +7,7 @@ use std::alloc::{AllocError, Global};
 const NONE: u32 = u32::MAX;
 
 /// For each pair the number of its component; no way leads to a smaller one. Linear in the ways, but that they are sorted once.
-pub fn components_of(
-    alloc: Global,
-    count: usize,
-    ways: &[Way],
-) -> Result<Vec<u32>, AllocError> {
+pub fn components_of(alloc: Global, count: usize, ways: &[Way]) -> Result<Vec<u32>, AllocError> {
     let order = finished(alloc, count, ways)?;
     let turned = turned(alloc, ways)?;
     let mut component = vec![in alloc; NONE; count]?;

@@ -1,9 +1,9 @@
 //! The logs of all obligations.
 
-ghost use Rattle.std.specs.Prelude.{◌≡◌, ◌<◌, ◌≤◌, ◌^◌, IfOk, length};
-ghost use Rattle.propositional_logic.specs.Clause.{IsFormula};
-ghost use Rattle.truth_witness.specs.Obligations.{IsObligationOf};
+ghost use Rattle.std.specs.Prelude.{◌≡◌, All, IfOk, OnOk};
+ghost use Rattle.truth_witness.specs.Obligations.{IsObligationOf, clauses_of, variables_of};
 ghost use Rattle.truth_witness.specs.Proved.{IsWitnessFor};
+ghost use Rattle.witness_clauses.specs.Counted.{IsCountable};
 
 use crate::searching::{Open, Searched, search};
 use propositional_logic::Cnf;
@@ -57,7 +57,9 @@ enum Found {
 }
 
 /// The obligations in their order.
-fn obligations(alloc: Global, claim: &Claim<'_>) -> Result<Vec<Obligation>, AllocError> {
+fn obligations(alloc: Global, claim: &Claim<'_>) -> Result<Vec<Obligation>, AllocError>
+    ensures { IfOk result (λ all. All (IsObligationOf claim.now.witness) all.items) }
+{
     let mut obligations = Vec::from_slice(
         alloc,
         &[Obligation::Base, Obligation::Keep, Obligation::Cover],
@@ -79,7 +81,9 @@ fn log_of<D: Deadline>(
     deadline: &D,
 ) -> Result<Found, AllocError>
     requires fits { IsWitnessFor claim.now }
+    requires owed { IsObligationOf claim.now.witness obligation }
 {
+    obligations_are_formulas();
     let base = base_of(alloc, claim, obligation)?;
     match search(alloc, &base, effort.entries, deadline)? {
         Searched::Refuted(entries) => Ok(Found::Log(ObligationLog {
@@ -94,15 +98,16 @@ fn log_of<D: Deadline>(
 /// The base clauses of an obligation.
 fn base_of(alloc: Global, claim: &Claim<'_>, obligation: Obligation) -> Result<Cnf, AllocError>
     requires fits { IsWitnessFor claim.now }
+    requires owed { IsObligationOf claim.now.witness obligation }
+    ensures vars { IfOk result (λ base. base.vars ≡ variables_of claim.now obligation) }
+    ensures clauses { IfOk result (λ base. base.clauses.items ≡ clauses_of claim.now obligation) }
+    ensures countable { OnOk result (IsCountable claim.now) }
 {
-    obligations_are_formulas();
+    let vars = claim.variables(obligation);
     let mut clauses = match obligation {
         Obligation::Base | Obligation::Cover | Obligation::Enter(_) => claim.start_clauses(alloc)?,
         Obligation::Keep | Obligation::Stay(_) | Obligation::Fall(_) => claim.step_clauses(alloc)?,
     };
     claim.add_own(alloc, obligation, &mut clauses)?;
-    Ok(Cnf {
-        vars: claim.variables(obligation),
-        clauses,
-    })
+    Ok(Cnf { vars, clauses })
 }

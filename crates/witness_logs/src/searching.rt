@@ -1,6 +1,6 @@
 //! The search for the log of one obligation.
 
-ghost use Rattle.std.specs.Prelude.{All, IfOk};
+ghost use Rattle.std.specs.Prelude.{◌≡◌, All, IfOk};
 ghost use Rattle.propositional_logic.specs.Clause.{IsFormula, IsWithinVariables};
 ghost use Rattle.clause_solver.specs.Worker.{IsWorkingOn};
 
@@ -42,20 +42,52 @@ pub(crate) fn search<D: Deadline>(
     work_goes_on();
     let mut worker = Worker::new(alloc, 0, base.vars)?;
     let mut entries = Vec::new(alloc);
-    for _ in 0..most {
+    for _turn in 0..most {
         if deadline.is_over() {
             return Ok(Searched::Open(Open::Time));
         }
-        match worker.turn(alloc, base, &entries)? {
-            Turned::Model(_values) => return Ok(Searched::Open(Open::Met)),
-            Turned::Learnt(entry) => {
-                let is_last = entry.clause.lits().is_empty();
-                entries.push(entry)?;
-                if is_last {
-                    return Ok(Searched::Refuted(needed(alloc, base, &entries)?));
-                }
-            }
+        match take_turn(alloc, base, &mut worker, &mut entries)? {
+            End::Met => return Ok(Searched::Open(Open::Met)),
+            End::Refuted => return Ok(Searched::Refuted(needed(alloc, base, &entries)?)),
+            End::GoesOn => {}
         }
     }
     Ok(Searched::Open(Open::Entries))
+}
+
+/// Where a turn ends.
+#[derive(Clone, Copy, Debug, PartialEq, Eq)]
+enum End {
+    Met,
+    Refuted,
+    GoesOn,
+}
+
+/// One turn of a worker, its entry appended.
+fn take_turn(
+    alloc: Global,
+    base: &Cnf,
+    worker: &mut Worker,
+    entries: &mut Vec<Entry>,
+) -> Result<End, AllocError>
+    requires variables { base.now.vars ≡ worker.old.trail.vars }
+    requires formula { IsFormula base.now.vars base.now.clauses.items }
+    requires within { All (λ e. IsWithinVariables base.now.vars e.clause) entries.old.items }
+    requires working { IsWorkingOn base.now.clauses.items entries.old.items worker.old }
+    ensures within { IfOk result (λ _. All (λ e. IsWithinVariables base.now.vars e.clause) entries.new.items) }
+    ensures working { IfOk result (λ _. IsWorkingOn base.now.clauses.items entries.new.items worker.new) }
+    ensures vars { worker.new.trail.vars ≡ worker.old.trail.vars }
+{
+    match worker.turn(alloc, base, entries)? {
+        Turned::Model(_values) => Ok(End::Met),
+        Turned::Learnt(entry) => {
+            let end = if entry.clause.lits().is_empty() {
+                End::Refuted
+            } else {
+                End::GoesOn
+            };
+            entries.push(entry)?;
+            Ok(end)
+        }
+    }
 }

@@ -111,11 +111,7 @@ fn covers_at(table: &[Vec<Cover>], id: u32) -> &[Cover] {
 }
 
 /// For each id the ways to meet its formula, where that is a part of the set at this position.
-fn table_of(
-    sight: Sight<'_>,
-    set: &IdSet,
-    steps: &mut Steps,
-) -> Result<Vec<Vec<Cover>>, Stop> {
+fn table_of(sight: Sight<'_>, set: &IdSet, steps: &mut Steps) -> Result<Vec<Vec<Cover>>, Stop> {
     let needed = needed_parts(sight, set)?;
     let mut table = Vec::with_capacity(sight.alloc, needed.len())?;
     for (id, is_needed) in (0u32..u32::MAX).zip(&needed) {
@@ -138,8 +134,10 @@ fn needed_parts(sight: Sight<'_>, set: &IdSet) -> Result<Vec<bool>, AllocError> 
     }
     for id in (0..count).rev() {
         if needed.get(id as usize).copied() == Some(true) {
-            if let Node::And(a, b) | Node::Or(a, b) | Node::Until(a, b) | Node::Release(a, b) =
-                node_at(sight.formulas, id)
+            if let Node::And(a, b)
+            | Node::Or(a, b)
+            | Node::Until(a, b)
+            | Node::Release(a, b) = node_at(sight.formulas, id)
             {
                 mark(&mut needed, a.0);
                 mark(&mut needed, b.0);

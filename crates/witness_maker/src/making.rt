@@ -149,7 +149,8 @@ impl<'a, 'b> Table<'a, 'b> {
                 rank: *rank,
             })?;
         }
-        self.sorted.sort_unstable_by(|one, other| one.bits.cmp(&other.bits));
+        self.sorted
+            .sort_unstable_by(|one, other| one.bits.cmp(&other.bits));
         Ok(())
     }
 
@@ -168,7 +169,10 @@ impl<'a, 'b> Table<'a, 'b> {
     }
 
     fn witness(&self) -> Result<Witness, Stop> {
-        let first = self.truths.end.saturating_add((self.width as u32).saturating_mul(2));
+        let first = self
+            .truths
+            .end
+            .saturating_add((self.width as u32).saturating_mul(2));
         let mut gates = Gates::new(self.alloc, first);
         let inv = self.inv(&mut gates)?;
         let rank = self.rank(&mut gates)?;

@@ -15,9 +15,8 @@ pub(crate) fn ranks_of(
     let mut ways = Vec::from_slice(alloc, &pairs.ways)?;
     ways.sort_unstable_by_key(|way| way.from);
     let component = components_of(alloc, pairs.pairs.len(), &ways)?;
-    if ways
-        .iter()
-        .any(|way| at(&component, way.from) == at(&component, way.to) && falls(pairs, states, *way))
+    if ways.iter().any(|way| at(&component, way.from) == at(&component, way.to)
+        && falls(pairs, states, *way))
     {
         return Err(Stop::LetsThrough);
     }

@@ -103,12 +103,7 @@ impl<'a> States<'a> {
     }
 
     /// Meets the edges of a state where these signals are known.
-    pub(crate) fn meet(
-        &mut self,
-        state: u32,
-        known: Known,
-        steps: &mut Steps,
-    ) -> Result<(), Stop> {
+    pub(crate) fn meet(&mut self, state: u32, known: Known, steps: &mut Steps) -> Result<(), Stop> {
         let (_place, is_new) = self.seen.insert_full(Seen { state, known })?;
         if !is_new {
             return Ok(());
@@ -122,12 +117,7 @@ impl<'a> States<'a> {
         Ok(())
     }
 
-    fn covers_at(
-        &self,
-        state: u32,
-        known: Known,
-        steps: &mut Steps,
-    ) -> Result<Vec<Cover>, Stop> {
+    fn covers_at(&self, state: u32, known: Known, steps: &mut Steps) -> Result<Vec<Cover>, Stop> {
         let sight = Sight {
             alloc: self.alloc,
             formulas: self.formulas,

@@ -157,7 +157,9 @@ fn push_check(
             hints = hints.saturating_add(entry.hints.numbers().len());
             lits = lits.saturating_add(entry.clause.lits().len());
         }
-        let line = format!(in alloc; "{vars} variables, {base} base clauses, {count} entries, {lits} literals, {hints} hints\n")?;
+        let line = format!(in alloc;
+            "{vars} variables, {base} base clauses, {count} entries, {lits} literals, {hints} hints\n"
+        )?;
         out.extend_from_slice(line.as_bytes())?;
     }
     match check_logs(alloc, claim, logs) {
