@@ -10,6 +10,11 @@ struct Pair {
     table: u64,
 }
 
+const ALWAYS: Pair = Pair {
+    function: Function::TRUE,
+    table: u64::MAX,
+};
+
 /// The truth tables of the variables.
 const VARIABLES: [u64; 6] = [
     0xaaaa_aaaa_aaaa_aaaa,
@@ -19,6 +24,9 @@ const VARIABLES: [u64; 6] = [
     0xffff_0000_ffff_0000,
     0xffff_ffff_0000_0000,
 ];
+
+/// How far apart the values of a variable stand in a table.
+const SHIFTS: [u32; 6] = [1, 2, 4, 8, 16, 32];
 
 /// Functions to draw from, and the state of the generator.
 #[derive(Drop)]
@@ -48,7 +56,7 @@ impl Drawn {
             })?;
         }
         for _ in 0..36 {
-            pairs.push(pairs[0])?;
+            pairs.push(ALWAYS)?;
         }
         Ok(Drawn {
             diagrams,
@@ -68,10 +76,7 @@ impl Drawn {
     fn pair(&mut self) -> Pair {
         let place = (self.number() >> 8) as usize % self.pairs.len().max(1);
         let pair = self.pairs.get(place).copied();
-        pair.unwrap_or(Pair {
-            function: Function::TRUE,
-            table: u64::MAX,
-        })
+        pair.unwrap_or(ALWAYS)
     }
 
     /// A variable's number below 6.
@@ -79,8 +84,13 @@ impl Drawn {
         (self.number() >> 8) as usize % 6
     }
 
+    fn variable(&self, place: usize) -> Variable {
+        let variable = self.variables.get(place).copied();
+        variable.unwrap_or(Variable::of_number(0))
+    }
+
     fn put(&mut self, pair: Pair) {
-        let place = self.place() * 7;
+        let place = self.place().saturating_mul(7);
         if let Some(old) = self.pairs.get_mut(place) {
             *old = pair;
         }
@@ -97,10 +107,10 @@ impl Drawn {
 
     fn table_of(&self, function: Function) -> u64 {
         let mut table = 0;
-        for place in 0..64 {
-            let values = VARIABLES.map(|variable| variable >> place & 1 == 1);
+        for place in 0u32..64 {
+            let values = VARIABLES.map(|variable| has_bit(variable, place));
             if self.diagrams.evaluate(function, &values) {
-                table |= 1 << place;
+                table |= 1u64.checked_shl(place).unwrap_or(0);
             }
         }
         table
@@ -132,7 +142,7 @@ impl Drawn {
         let (f, g) = (a.function, b.function);
         let place = self.place();
         let kind = self.number() % 5;
-        let variable = self.variables[place];
+        let variable = self.variable(place);
         let diagrams = &mut self.diagrams;
         let cube = diagrams.cube(&[variable])?;
         let (function, table) = match kind {
@@ -169,8 +179,8 @@ impl Drawn {
         let (a, b, c) = (self.pair(), self.pair(), self.pair());
         let (one, two) = (self.place(), self.place());
         let images = [
-            (self.variables[one], b.function),
-            (self.variables[two], c.function),
+            (self.variable(one), b.function),
+            (self.variable(two), c.function),
         ];
         let by = self.diagrams.substitution(&images)?;
         let function = self.diagrams.compose(a.function, &by)?;
@@ -192,6 +202,10 @@ impl Drawn {
     }
 }
 
+fn has_bit(table: u64, place: u32) -> bool {
+    table.checked_shr(place).unwrap_or(0) & 1 == 1
+}
+
 fn chosen(condition: u64, then: u64, otherwise: u64) -> u64 {
     condition & then | !condition & otherwise
 }
@@ -199,7 +213,7 @@ fn chosen(condition: u64, then: u64, otherwise: u64) -> u64 {
 /// A table for one value of a variable.
 fn at(table: u64, place: usize, value: bool) -> u64 {
     let set = VARIABLES.get(place).copied().unwrap_or(0);
-    let shift = 1u32.checked_shl(place as u32).unwrap_or(1);
+    let shift = SHIFTS.get(place).copied().unwrap_or(1);
     if value {
         let part = table & set;
         part | part.checked_shr(shift).unwrap_or(0)
