@@ -9,7 +9,7 @@ use Rattle.witness_check.specs.declared.bases.Bases.{Bases}
 use Rattle.witness_check.specs.declared.faults.ObligationFault.{ObligationFault}
 use Rattle.witness_check.specs.Order.{obligation_at, obligation_count}
 use Rattle.truth_witness.specs.Logs.{ObligationLog}
-use Rattle.witness_check.specs.Logs.{HoldsAt, HoldsOver, log_at}
+use Rattle.witness_check.specs.Logs.{AllHold, FirstHold, HoldsAt, HoldsOver, log_at}
 use Rattle.witness_check.specs.Faults.{IsFaultOver, IsFirstAt}
 use Rattle.witness_check.specs.Kept.{AreKept}
 
@@ -31,10 +31,14 @@ tested_more x logs k log old new h is holds kept done = record { kept = kept; be
     by j less (inl before) = done.before j before
     by j less (inr after) = let same : k ≡ j = omega arith in subst (HoldsAt x logs) same here
 
-pub first_is : (x : Claim) (logs : List ObligationLog) (k : ℕ) (log : ObligationLog) (b : Bases) (fault : ObligationFault) → length logs ≡ obligation_count x.witness → k < length logs
+pub first_is : (x : Claim) (logs : List ObligationLog) (k : ℕ) (log : ObligationLog) (b : Bases) (fault : ObligationFault) → k < length logs
     → log ≡ get_or logs k log → IsFaultOver (variables_of x (obligation_at k)) (clauses_of x (obligation_at k)) log fault → Tested x logs k b → IsFirstAt x logs k fault
-first_is x logs k log b fault count h is refused done = record {
-  within = subst (λ n. k < n) count h;
+first_is x logs k log b fault h is refused done = record {
+  within = h;
   before = done.before;
   here = subst (λ l. IsFaultOver (variables_of x (obligation_at k)) (clauses_of x (obligation_at k)) l fault) (log_is logs k log h is) refused;
 }
+
+-- as many logs as obligations are all of them
+pub all_hold : (x : Claim) (logs : List ObligationLog) → length logs ≡ obligation_count x.witness → FirstHold x logs (length logs) → AllHold x logs
+all_hold x logs count first = subst (FirstHold x logs) count first

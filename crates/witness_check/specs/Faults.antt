@@ -9,7 +9,7 @@ use Rattle.witness_check.specs.declared.faults.ObligationFault.{ObligationFault}
 use Rattle.witness_check.specs.declared.faults.ObligationFault.TheVariants.{Head, Log, NoMemory}
 use Rattle.witness_check.specs.declared.faults.WitnessFault.{WitnessFault}
 use Rattle.witness_check.specs.declared.faults.WitnessFault.TheVariants.{At, OutOfMemory}
-use Rattle.witness_check.specs.Order.{obligation_at, obligation_count}
+use Rattle.witness_check.specs.Order.{obligation_at}
 use Rattle.witness_check.specs.Logs.{HoldsAt, log_at}
 
 -- the head says other numbers than the obligation has
@@ -24,7 +24,7 @@ IsFaultOver vars clauses log NoMemory = ⊤
 
 -- the log at this place is refused, and each before it holds
 pub record IsFirstAt (x : Claim) (logs : List ObligationLog) (k : ℕ) (fault : ObligationFault) : Type 0 where
-  pub within : k < obligation_count x.witness
+  pub within : k < length logs
   pub before : (j : ℕ) → j < k → HoldsAt x logs j
   pub here : IsFaultOver (variables_of x (obligation_at k)) (clauses_of x (obligation_at k)) (log_at logs k) fault
 

@@ -27,6 +27,10 @@ pub record HoldsOver (vars : ℕ) (clauses : List (List Literal)) (log : Obligat
 abbrev pub HoldsAt : Claim → List ObligationLog → ℕ → Type 0
 HoldsAt x logs k = HoldsOver (variables_of x (obligation_at k)) (clauses_of x (obligation_at k)) (log_at logs k)
 
+-- each of the first n logs holds
+abbrev pub FirstHold : Claim → List ObligationLog → ℕ → Type 0
+FirstHold x logs n = (k : ℕ) → k < n → HoldsAt x logs k
+
 -- each log holds
 abbrev pub AllHold : Claim → List ObligationLog → Type 0
-AllHold x logs = (k : ℕ) → k < obligation_count x.witness → HoldsAt x logs k
+AllHold x logs = FirstHold x logs (obligation_count x.witness)

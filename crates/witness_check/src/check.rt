@@ -1,11 +1,11 @@
 //! Whether a witness is proved by its logs.
 
-ghost use Rattle.std.specs.Prelude.{◌≡◌, All, IsOk, IfErr, length};
+ghost use Rattle.std.specs.Prelude.{◌≡◌, ◌≤◌, All, IsOk, IfErr, length};
 ghost use Rattle.log_checker.specs.Hinted.{AreWithin};
 ghost use Rattle.truth_witness.specs.Laws.{IsTrueClaim};
 ghost use Rattle.truth_witness.specs.Proved.{IsProved, IsWitnessFor};
 ghost use Rattle.witness_check.specs.Faults.{IsWitnessFault};
-ghost use Rattle.witness_check.specs.Logs.{AllHold, entries_for};
+ghost use Rattle.witness_check.specs.Logs.{AllHold, FirstHold, entries_for};
 ghost use Rattle.witness_check.specs.Order.{obligation_count};
 
 use crate::bases::Bases;
@@ -33,15 +33,19 @@ pub fn check_logs(
 {
     witnesses_show();
     let _frame = claim.frame_size();
-    test_logs(alloc, claim, logs)
+    check_first_logs(alloc, claim, logs)
 }
 
-/// Tests the log of each obligation, in their order.
-fn test_logs(alloc: Global, claim: &Claim<'_>, logs: &[ObligationLog]) -> Result<(), WitnessFault>
+/// The same of the first obligations alone, of which there are logs: so a refusal is told where further logs are missing.
+pub fn check_first_logs(
+    alloc: Global,
+    claim: &Claim<'_>,
+    logs: &[ObligationLog],
+) -> Result<(), WitnessFault>
     requires fits { IsWitnessFor claim.now }
-    requires count { length logs.now ≡ obligation_count claim.now.witness }
+    requires count { length logs.now ≤ obligation_count claim.now.witness }
     requires read { All (λ log. AreWithin log.vars log.entries) logs.now }
-    ensures ok { IsOk result → AllHold claim.now logs.now }
+    ensures ok { IsOk result → FirstHold claim.now logs.now (length logs.now) }
     ensures fault { IfErr result (IsWitnessFault claim.now logs.now) }
 {
     let mut bases = Bases::new(alloc, claim)?;

@@ -8,5 +8,5 @@ mod check;
 mod faults;
 mod order;
 
-pub use check::check_logs;
+pub use check::{check_first_logs, check_logs};
 pub use faults::{ObligationFault, WitnessFault};

@@ -9,7 +9,7 @@ use ltl_formula::{FormulaId, Formulas, Node};
 use std::alloc::{AllocError, Global};
 
 /// The ids that occur in a formula, rising: its own, and parts of what occurs. Costs a pass over the list.
-pub(crate) fn occurring(
+pub fn occurring(
     alloc: Global,
     formulas: &Formulas,
     form: FormulaId,

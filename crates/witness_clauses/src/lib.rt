@@ -14,4 +14,5 @@ mod obligations;
 mod steps;
 
 pub use claims::{Claim, Claimed};
+pub use ids::occurring;
 pub use making::add_made;

@@ -1,0 +1,4 @@
+pub mod Bounds
+pub mod Lines
+pub mod Seen
+pub mod Laws
