@@ -1,6 +1,6 @@
 -- What the reader has is what is read, and it fits.
-use Rattle.std.proofs.Common.{◌≡◌, ℕ, ◌+◌, ◌*◌, ◌<◌, ◌≤◌, ◌^◌, Option, Some, None, List, [], length, refl, sym, ap, subst, ◌∙◌, arith}
-use Rattle.std.specs.Prelude.{All}
+use Rattle.std.proofs.Common.{◌≡◌, ℕ, ◌+◌, ◌*◌, ◌<◌, ◌≤◌, ◌^◌, Option, Some, None, List, [], length, refl, sym, ap, subst, ◌∙◌, arith, Bor}
+use Rattle.std.specs.Prelude.{All, IfSome}
 use Rattle.witness_text.specs.declared.lines.Following.{Following}
 use Rattle.witness_text.specs.Logs.{LogsRead, ReadsLogs}
 use Rattle.witness_text.specs.Places.{IsNumbered, lines_of_logs}
@@ -32,6 +32,10 @@ few_parts bytes s is = subst (λ (s : Statement). length s.parts ≤ 256) (sym i
 
 pub logs_line : (count n : ℕ) (text : List ℕ) (read : LogsRead) → ReadsLogs count 0 n text read → read.line ≤ n + length text
 logs_line count n text read reads = (logs_are_read count 0 n text read (omega arith) reads).lines
+
+pub room : (n : ℕ) (rest : Option (Bor (List ℕ))) → n + 1 < 2 ^ 64 → IfSome rest (λ text. n + 1 < 2 ^ 64)
+room n None small = tt
+room n (Some text) small = small
 
 -- ---- what is read
 

@@ -13,8 +13,6 @@ mod logs;
 mod numbers;
 mod reading;
 mod statement;
-#[cfg(test)]
-mod tests;
 mod write;
 
 pub use lines::{Following, WitnessCounts, WitnessLines, WitnessProof};
