@@ -233,7 +233,7 @@ fn number_behind(line: &[u8], words: &[u8]) -> Option<u32>
 }
 
 /// What stands behind the line that names the other kind, where it comes first.
-pub fn behind_semantics(kind: Kind, bytes: &[u8]) -> Option<&[u8]>
+fn behind_semantics(kind: Kind, bytes: &[u8]) -> Option<&[u8]>
     ensures { option_copied result ≡ behind_front (semantics_text kind) bytes.now }
 {
     match kind {
@@ -242,8 +242,7 @@ pub fn behind_semantics(kind: Kind, bytes: &[u8]) -> Option<&[u8]>
     }
 }
 
-/// How many sizes are refuted, fewer than so many states, and the bytes behind that line, where it comes first.
-pub fn refuted_line(states: u32, bytes: &[u8]) -> Option<(u32, &[u8])>
+fn refuted_line(states: u32, bytes: &[u8]) -> Option<(u32, &[u8])>
     ensures { option_map (λ p. (p.0, p.1.now)) result ≡ front (refuted_in states) bytes.now }
 {
     let (line, rest) = cut_at(bytes, b'\n')?;

@@ -17,8 +17,7 @@ mod write;
 
 pub use annotation::AnnotationPlace;
 pub use documents::{Document, SizeLog, Verdict};
-pub use header::{Header, behind_semantics, refuted_line};
+pub use header::Header;
 pub use letters::{LetterList, Letters};
-pub use logs::{LogsRead, read_logs};
 pub use reading::{SolvedLines, is_sixth, read_solved};
-pub use write::{push_kind, push_logs, push_numbered, push_semantics, write_solved};
+pub use write::write_solved;

@@ -17,7 +17,7 @@ pub struct LogsRead<'a> {
 }
 
 /// Reads the logs of the sizes from 1 to `refuted`, the first of which begins in line `first`.
-pub fn read_logs(
+pub(crate) fn read_logs(
     alloc: Global,
     refuted: u32,
     first: u64,

@@ -90,7 +90,7 @@ fn push_line(text: &mut Vec<u8>, line: &[u8]) -> Result<(), AllocError>
 }
 
 /// Appends a line of words, with the space behind them, and a number.
-pub fn push_numbered(text: &mut Vec<u8>, words: &[u8], number: u64) -> Result<(), AllocError>
+fn push_numbered(text: &mut Vec<u8>, words: &[u8], number: u64) -> Result<(), AllocError>
     ensures { OnOk result (text.new.items ≡ text.old.items ++ text_of_lines ((words.now ++ decimal number) ∷ [])) }
 {
     text.extend_from_slice(words)?;
@@ -109,8 +109,7 @@ fn push_verdict(text: &mut Vec<u8>, verdict: Verdict) -> Result<(), AllocError>
     }
 }
 
-/// Appends the line of the kind.
-pub fn push_kind(text: &mut Vec<u8>, kind: Kind) -> Result<(), AllocError>
+fn push_kind(text: &mut Vec<u8>, kind: Kind) -> Result<(), AllocError>
     ensures { OnOk result (text.new.items ≡ text.old.items ++ text_of_lines (kind_line kind ∷ [])) }
 {
     match kind {
@@ -119,8 +118,7 @@ pub fn push_kind(text: &mut Vec<u8>, kind: Kind) -> Result<(), AllocError>
     }
 }
 
-/// Appends the line of the semantics of a converted text.
-pub fn push_semantics(text: &mut Vec<u8>, converted: bool, kind: Kind) -> Result<(), AllocError>
+fn push_semantics(text: &mut Vec<u8>, converted: bool, kind: Kind) -> Result<(), AllocError>
     ensures { OnOk result (text.new.items ≡ text.old.items ++ semantics_part converted kind) }
 {
     if !converted {
@@ -132,8 +130,7 @@ pub fn push_semantics(text: &mut Vec<u8>, converted: bool, kind: Kind) -> Result
     }
 }
 
-/// Appends logs, each with its head.
-pub fn push_logs(text: &mut Vec<u8>, logs: &[SizeLog]) -> Result<(), AllocError>
+fn push_logs(text: &mut Vec<u8>, logs: &[SizeLog]) -> Result<(), AllocError>
     ensures { OnOk result (text.new.items ≡ text.old.items ++ flat_map log_part logs.now) }
 {
     for log in logs {

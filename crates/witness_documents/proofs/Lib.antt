@@ -1,3 +1,0 @@
-pub mod HeaderWhole
-pub mod Whole
-mod BodyLemmas
