@@ -197,13 +197,28 @@ fn module_text<'a>(
         return Err(TextFault::NoSuchForm(NO_PROMISES));
     }
     let told = Told::of(alloc, text, Some(shown))?;
-    let checks = ChecksView {
-        text,
-        lines: &told.lines,
+    module_beside(alloc, shown, module, text, &told, is_checked)
+}
+
+/// The same of a text that was read.
+fn module_beside<'a>(
+    alloc: Global,
+    shown: &Shown,
+    module: ModuleView<'a>,
+    text: &'a [u8],
+    told: &'a Told,
+    is_checked: bool,
+) -> Result<Vec<u8>, TextFault> {
+    let lines = told.lines.as_slice();
+    let title = Some(told.title.as_str());
+    let checks = if is_checked {
+        Some(ChecksView { text, lines })
+    } else {
+        None
     };
     let module = ModuleView {
-        title: Some(&told.title),
-        checks: if is_checked { Some(checks) } else { None },
+        title,
+        checks,
         ..module
     };
     show(alloc, shown, View::Verilog(module))
